@@ -1,0 +1,36 @@
+-- Laws of cutting a text.
+use Rattle.std.proofs.Common.{◌≡◌, refl, ℕ, suc, ◌+◌, ◌<◌, Bool, true, false, eqb, List, [], ◌∷◌, length, drop, get_or, Some, arith, drop-cons, add-one}
+use Rattle.std.specs.List.{onto_first}
+use Rattle.text_reading.specs.Cut.{cut_at, pieces, pieces_left}
+
+-- the pieces of a text are the first cut, and the pieces of what is left
+pub pieces_cut : (mark : ℕ) (bs : List ℕ) → pieces mark bs ≡ (cut_at mark bs).0 ∷ pieces_left mark (cut_at mark bs).1
+pieces_cut mark [] = refl
+pieces_cut mark (b ∷ bs) = by (eqb b mark) refl (pieces_cut mark bs)
+  where
+    by : (t : Bool) → eqb b mark ≡ t → pieces mark bs ≡ (cut_at mark bs).0 ∷ pieces_left mark (cut_at mark bs).1
+        → pieces mark (b ∷ bs) ≡ (cut_at mark (b ∷ bs)).0 ∷ pieces_left mark (cut_at mark (b ∷ bs)).1
+    by true e h = rw e refl
+    by false e h = rw (e, h) refl
+
+-- one piece more where there is a mark, and else as many
+pub pieces_hit : (mark i : ℕ) (bs : List ℕ) → i < length bs → eqb (get_or bs i 0) mark ≡ true → length (pieces mark (drop i bs)) ≡ length (pieces mark (drop (i + 1) bs)) + 1
+pieces_hit mark i bs lt e = rw (drop-cons bs i 0 lt, e) (rw (add-one, add-one) refl)
+
+onto : (x : ℕ) (ps : List (List ℕ)) → 0 < length ps → length (onto_first x ps) ≡ length ps
+onto x [] h = absurd (omega (arith, h))
+onto x (p ∷ ps) h = refl
+
+some_piece : (mark : ℕ) (bs : List ℕ) → 0 < length (pieces mark bs)
+some_piece mark bs = rw (pieces_cut mark bs) (omega arith)
+
+pub pieces_miss : (mark i : ℕ) (bs : List ℕ) → i < length bs → eqb (get_or bs i 0) mark ≡ false → length (pieces mark (drop i bs)) ≡ length (pieces mark (drop (i + 1) bs))
+pieces_miss mark i bs lt e = rw (drop-cons bs i 0 lt, e) (rw add-one (onto (get_or bs i 0) (pieces mark (drop (suc i) bs)) (some_piece mark (drop (suc i) bs))))
+
+-- one byte further
+pub cut_hit : (mark i : ℕ) (bs : List ℕ) → i < length bs → eqb (get_or bs i 0) mark ≡ true → cut_at mark (drop i bs) ≡ ([], Some (drop (i + 1) bs))
+cut_hit mark i bs lt e = rw (drop-cons bs i 0 lt, e) (rw add-one refl)
+
+pub cut_miss : (mark i : ℕ) (bs : List ℕ) → i < length bs → eqb (get_or bs i 0) mark ≡ false
+    → cut_at mark (drop i bs) ≡ (get_or bs i 0 ∷ (cut_at mark (drop (i + 1) bs)).0, (cut_at mark (drop (i + 1) bs)).1)
+cut_miss mark i bs lt e = rw (drop-cons bs i 0 lt, e) (rw add-one refl)

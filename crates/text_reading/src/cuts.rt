@@ -1,0 +1,31 @@
+ghost use Rattle.std.specs.Prelude.{◌≡◌, ◌<◌, IfSome, length};
+ghost use Rattle.std.specs.Option.{option_copied};
+ghost use Rattle.text_reading.specs.Cut.{cut_at, pieces};
+
+/// What stands before the first mark, or all, and what stands after it, where there is one.
+pub fn cut(bytes: &[u8], mark: u8) -> (&[u8], Option<&[u8]>)
+    ensures front { result.0.now ≡ (cut_at mark bytes.now).0 }
+    ensures after { option_copied result.1 ≡ (cut_at mark bytes.now).1 }
+    ensures shorter { IfSome result.1 (λ a. length a.now < length bytes.now) }
+{
+    for (i, b) in bytes.iter().enumerate() {
+        if *b == mark {
+            return (&bytes[..i], Some(&bytes[i + 1..]));
+        }
+    }
+    (bytes, None)
+}
+
+#[tactic(auto, using(crate::proofs::CutLaws::pieces_hit, crate::proofs::CutLaws::pieces_miss))]
+/// How many pieces a text has, cut at each mark.
+pub fn count_pieces(bytes: &[u8], mark: u8) -> usize
+    ensures { result ≡ length (pieces mark bytes.now) }
+{
+    let mut marks = 0;
+    for b in bytes {
+        if *b == mark {
+            marks += 1;
+        }
+    }
+    marks + 1
+}

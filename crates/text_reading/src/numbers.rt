@@ -1,0 +1,32 @@
+ghost use Rattle.std.specs.Prelude.{◌≡◌};
+ghost use Rattle.text_reading.specs.Number.{digits_of, number_of};
+
+/// The number that a text is: 1 to 20 digits, whose value is below 2^64.
+#[tactic(auto, unfolding(crate::specs::Number::number_of))]
+pub fn number(bytes: &[u8]) -> Option<u64>
+    ensures { result ≡ number_of bytes.now }
+{
+    if bytes.is_empty() || bytes.len() > 20 {
+        return None;
+    }
+    digits(bytes)
+}
+
+#[tactic(auto, using(crate::proofs::Digits::digits_too_large))]
+// The value of digits, where it is below 2^64.
+fn digits(bytes: &[u8]) -> Option<u64>
+    ensures { result ≡ digits_of 0 bytes.now }
+{
+    let mut value: u64 = 0;
+    for b in bytes {
+        if !b.is_ascii_digit() {
+            return None;
+        }
+        let next = value as u128 * 10 + (*b - b'0') as u128;
+        if next > u64::MAX as u128 {
+            return None;
+        }
+        value = next as u64;
+    }
+    Some(value)
+}
