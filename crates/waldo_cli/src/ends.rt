@@ -1,0 +1,79 @@
+//! A source over any reader and a sink over any writer, each with a count of its faults.
+ghost use Rattle.std.specs.Prelude.{◌≡◌, None};
+
+use std::io::{Read, Write};
+use waldo_run::sink::Sink;
+use waldo_run::source::Source;
+use waldo_run::{sink, source};
+
+/// A source over a reader.
+#[derive(Drop)]
+pub struct Reading<R> {
+    inner: R,
+    faults: u64,
+}
+
+impl<R: Read> Reading<R> {
+    /// A source with no fault so far.
+    pub fn new(inner: R) -> Reading<R> {
+        Reading { inner, faults: 0 }
+    }
+}
+
+impl<R: Read> Source for Reading<R> {
+    ghost left = { λ s. R.remaining s.inner };
+
+    ghost fault_count = { λ s. s.faults };
+
+    fn faults(&self) -> u64 {
+        self.faults
+    }
+
+    fn read(&mut self, buffer: &mut [u8]) -> Result<usize, source::Failed> {
+        match self.inner.read(buffer) {
+            Ok(count) => Ok(count),
+            Err(_) => {
+                self.faults = self.faults.saturating_add(1);
+                Err(source::Failed)
+            }
+        }
+    }
+}
+
+/// A sink over a writer.
+#[derive(Drop)]
+pub struct Writing<W> {
+    inner: W,
+    faults: u64,
+}
+
+impl<W: Write> Writing<W> {
+    /// A sink with no fault so far.
+    pub fn new(inner: W) -> Writing<W> {
+        Writing { inner, faults: 0 }
+    }
+}
+
+impl<W: Write> Sink for Writing<W> {
+    ghost taken = { λ _. None };
+
+    ghost fault_count = { λ s. s.faults };
+
+    fn faults(&self) -> u64 {
+        self.faults
+    }
+
+    fn put(&mut self, piece: &[u8]) -> Result<(), sink::Failed> {
+        let mut rest = piece;
+        while !rest.is_empty() {
+            match self.inner.write(rest) {
+                Ok(0) | Err(_) => {
+                    self.faults = self.faults.saturating_add(1);
+                    return Err(sink::Failed);
+                }
+                Ok(count) => rest = &rest[count..],
+            }
+        }
+        Ok(())
+    }
+}
