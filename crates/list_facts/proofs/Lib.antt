@@ -1,2 +1,4 @@
+pub mod Count
+pub mod Each
 pub mod Listed
 pub mod Prefixes
