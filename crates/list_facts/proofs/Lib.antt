@@ -1,4 +1,5 @@
 pub mod Count
 pub mod Each
+pub mod Items
 pub mod Listed
 pub mod Prefixes

@@ -1,5 +1,5 @@
 -- Laws of cutting a text.
-use Rattle.std.proofs.Common.{◌≡◌, refl, ℕ, suc, ◌+◌, ◌<◌, Bool, true, false, eqb, List, [], ◌∷◌, length, drop, get_or, Some, arith, drop-cons, add-one}
+use Rattle.std.proofs.Common.{◌≡◌, refl, ap, ℕ, suc, ◌+◌, ◌<◌, Bool, true, false, eqb, List, [], ◌∷◌, length, drop, get_or, Some, arith, drop-cons, add-one}
 use Rattle.std.specs.List.{onto_first}
 use Rattle.text_reading.specs.Cut.{cut_at, pieces, pieces_left}
 
@@ -21,8 +21,12 @@ onto : (x : ℕ) (ps : List (List ℕ)) → 0 < length ps → length (onto_first
 onto x [] h = absurd (omega (arith, h))
 onto x (p ∷ ps) h = refl
 
-some_piece : (mark : ℕ) (bs : List ℕ) → 0 < length (pieces mark bs)
-some_piece mark bs = rw (pieces_cut mark bs) (omega arith)
+-- a text has one piece more than what is left behind its first
+pub pieces_fewer : (mark : ℕ) (bs : List ℕ) → length (pieces mark bs) ≡ suc (length (pieces_left mark (cut_at mark bs).1))
+pieces_fewer mark bs = ap length (pieces_cut mark bs)
+
+pub some_piece : (mark : ℕ) (bs : List ℕ) → 0 < length (pieces mark bs)
+some_piece mark bs = rw (pieces_fewer mark bs) (omega arith)
 
 pub pieces_miss : (mark i : ℕ) (bs : List ℕ) → i < length bs → eqb (get_or bs i 0) mark ≡ false → length (pieces mark (drop i bs)) ≡ length (pieces mark (drop (i + 1) bs))
 pieces_miss mark i bs lt e = rw (drop-cons bs i 0 lt, e) (rw add-one (onto (get_or bs i 0) (pieces mark (drop (suc i) bs)) (some_piece mark (drop (suc i) bs))))

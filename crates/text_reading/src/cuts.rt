@@ -2,10 +2,13 @@ ghost use Rattle.std.specs.Prelude.{◌≡◌, ◌<◌, IfSome, length};
 ghost use Rattle.std.specs.Option.{option_copied};
 ghost use Rattle.text_reading.specs.Cut.{cut_at, pieces};
 
-/// What stands before the first mark, or all, and what stands after it, where there is one.
+/// What stands before the first mark, or all of the text, and what stands after it, where there is one.
+/// Both are parts of the text itself.
 pub fn cut(bytes: &[u8], mark: u8) -> (&[u8], Option<&[u8]>)
     ensures front { result.0.now ≡ (cut_at mark bytes.now).0 }
     ensures after { option_copied result.1 ≡ (cut_at mark bytes.now).1 }
+
+    // So a reader that goes on with what is after the mark comes to an end.
     ensures shorter { IfSome result.1 (λ a. length a.now < length bytes.now) }
 {
     for (i, b) in bytes.iter().enumerate() {
@@ -16,8 +19,8 @@ pub fn cut(bytes: &[u8], mark: u8) -> (&[u8], Option<&[u8]>)
     (bytes, None)
 }
 
+/// How many pieces a text has that is cut at each mark: one more than it has marks.
 #[tactic(auto, using(crate::proofs::CutLaws::pieces_hit, crate::proofs::CutLaws::pieces_miss))]
-/// How many pieces a text has, cut at each mark.
 pub fn count_pieces(bytes: &[u8], mark: u8) -> usize
     ensures { result ≡ length (pieces mark bytes.now) }
 {

@@ -1,7 +1,8 @@
 ghost use Rattle.std.specs.Prelude.{◌≡◌};
 ghost use Rattle.text_reading.specs.Number.{digits_of, number_of};
 
-/// The number that a text is: 1 to 20 digits, whose value is below 2^64.
+/// The number that a text is: 1 to 20 ASCII digits whose value is below 2^64. Leading zeros are allowed,
+/// a sign or a space is not.
 #[tactic(auto, unfolding(crate::specs::Number::number_of))]
 pub fn number(bytes: &[u8]) -> Option<u64>
     ensures { result ≡ number_of bytes.now }
@@ -12,8 +13,8 @@ pub fn number(bytes: &[u8]) -> Option<u64>
     digits(bytes)
 }
 
+// The value of digits, where it is below 2^64. It only grows, so the first value past the end decides.
 #[tactic(auto, using(crate::proofs::Digits::digits_too_large))]
-// The value of digits, where it is below 2^64.
 fn digits(bytes: &[u8]) -> Option<u64>
     ensures { result ≡ digits_of 0 bytes.now }
 {
