@@ -1,0 +1,4 @@
+pub mod Share
+pub mod Pairs
+pub mod Lists
+pub mod Laws

@@ -1,0 +1,23 @@
+//! What the definitions say together, as functions without effect.
+
+ghost use Rattle.replicated_share.specs.Laws.{SplitShares, SharesReveal, AddedReveals, ScaledReveals};
+
+/// The shares of a split list, two at each server, are shares of the list.
+pub fn split_shares()
+    ensures { SplitShares }
+{}
+
+/// Shares of a list reveal it, place by place.
+pub fn shares_reveal()
+    ensures { SharesReveal }
+{}
+
+/// The sums of pairs reveal the sum.
+pub fn added_reveals()
+    ensures { AddedReveals }
+{}
+
+/// The scaled pairs reveal the product with the factor.
+pub fn scaled_reveals()
+    ensures { ScaledReveals }
+{}
