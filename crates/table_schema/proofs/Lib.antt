@@ -1,0 +1,3 @@
+pub mod BucketLaws
+pub mod SchemaLaws
+pub mod WidthLaws

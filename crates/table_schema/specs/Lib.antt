@@ -1,0 +1,5 @@
+pub mod Column
+pub mod Limits
+pub mod Name
+pub mod Schema
+pub mod Widths
