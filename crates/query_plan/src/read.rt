@@ -1,0 +1,75 @@
+ghost use Rattle.std.specs.Prelude.{◌≡◌, length};
+ghost use Rattle.text_reading.specs.Reading.{Reads};
+ghost use Rattle.text_reading.specs.Cut.{pieces_left};
+ghost use Rattle.std.specs.Option.{option_copied};
+ghost use Rattle.query_plan.specs.Reading.{aggregate_of, query_of};
+
+use crate::predicate::predicate;
+use crate::query::{Predicate, Query, QueryFault};
+use table_schema::{Aggregate, Kind, Schema};
+use text_reading::{count_pieces, cut};
+
+const MOST_PREDICATES: usize = 4;
+
+const NO_PREDICATE: Predicate = Predicate {
+    column: 0,
+    kind: Kind::Point,
+    low: 0,
+    high: 0,
+};
+
+#[tactic(auto, unfolding(crate::specs::Reading::aggregate_of))]
+fn aggregate(word: &[u8]) -> Option<Aggregate>
+    ensures { result ≡ aggregate_of word.now }
+{
+    if word == b"count".as_slice() {
+        Some(Aggregate::Count)
+    } else if word == b"sum".as_slice() {
+        Some(Aggregate::Sum)
+    } else {
+        None
+    }
+}
+
+fn count_left(rest: Option<&[u8]>) -> usize
+    ensures { result ≡ length (pieces_left 32 (option_copied rest.entry)) }
+{
+    match rest {
+        None => 0,
+        Some(bytes) => count_pieces(bytes, b' '),
+    }
+}
+
+#[tactic(auto, using(crate::proofs::QueryLaws::no_aggregate, crate::proofs::QueryLaws::too_few, crate::proofs::QueryLaws::too_many, crate::proofs::QueryLaws::begins, crate::proofs::QueryLaws::good_predicate, crate::proofs::QueryLaws::bad_predicate, crate::proofs::QueryLaws::no_more, crate::proofs::QueryLaws::fewer_left))]
+/// The query that a text describes, or the first fault from the left.
+pub fn read_query(schema: &Schema, text: &str) -> Result<Query, QueryFault>
+    ensures { Reads (λ q. q) result (query_of schema.now text.now) }
+{
+    let (word, after) = cut(text.as_bytes(), b' ');
+    let Some(aggregate) = aggregate(word) else {
+        return Err(QueryFault::Aggregate);
+    };
+    let had = count_left(after);
+    if had < 1 || had > MOST_PREDICATES {
+        return Err(QueryFault::Count { had: had as u64 });
+    }
+    let mut query = Query {
+        aggregate,
+        count: 0,
+        predicates: [NO_PREDICATE; 4],
+    };
+    let mut rest = after;
+    while let Some(bytes) = rest {
+        let (piece, more) = cut(bytes, b' ');
+        let index = query.count;
+        match predicate(schema, &query.predicates[..index as usize], piece) {
+            Ok(p) => {
+                query.predicates[index as usize] = p;
+                query.count = index + 1;
+            }
+            Err(why) => return Err(QueryFault::Predicate { index, why }),
+        }
+        rest = more;
+    }
+    Ok(query)
+}
