@@ -1,0 +1,19 @@
+//! Parts of zero: numbers that three servers make, each by itself, and that add up to 0 modulo 2^128. A server adds its part
+//! to a word before the word leaves it, so that the word alone shows nothing and the sum of the three stays (Araki et al. 2016).
+//!
+//! It never says which counter is next: a counter that is used twice with the same seeds gives the same part twice.
+//!
+//! ```text
+//! let zero = ZeroSeeds { own: z0, next: z1 };
+//! zero.add_parts(start, &mut words);
+//! send(&words);
+//! ```
+#![tactic(auto)]
+
+pub mod laws;
+mod seeds;
+
+pub use seeds::ZeroSeeds;
+
+#[cfg(test)]
+mod tests;

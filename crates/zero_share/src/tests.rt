@@ -1,0 +1,54 @@
+use super::*;
+use prg_chacha::Seed;
+
+const ZEROS: Seed = Seed { words: [0; 8] };
+
+const ONES: Seed = Seed { words: [1; 8] };
+
+const LAST: u64 = u64::MAX;
+
+// The parts of the seeds of zeros and ones, by another ChaCha20.
+const AT_FIRST: u128 = 0xe45bd69862f3076cc980dc13a568f98d;
+
+const AT_LAST: u128 = 0xbe8edbf3a4243f2034a162fa641a1fbf;
+
+#[test]
+fn parts_add_up_to_zero(rt: HostRuntime) {
+    let s = ZeroSeeds {
+        own: ZEROS,
+        next: ONES,
+    };
+    let t = ZeroSeeds {
+        own: ONES,
+        next: ZEROS,
+    };
+    let u = ZeroSeeds {
+        own: ZEROS,
+        next: ZEROS,
+    };
+    for (c, want) in [(0, AT_FIRST), (LAST, AT_LAST)] {
+        assert_eq!(rt; s.part(c), want, "at {c}");
+        assert_eq!(rt;
+            s.part(c).wrapping_add(t.part(c)).wrapping_add(u.part(c)),
+            0,
+            "sum at {c}"
+        );
+    }
+}
+
+#[test]
+fn words_gain_their_parts(rt: HostRuntime) {
+    let s = ZeroSeeds {
+        own: ZEROS,
+        next: ONES,
+    };
+    let mut words = [5, 6];
+    s.add_parts(LAST - 1, &mut words);
+    assert_eq!(rt;
+        words,
+        [
+            0xfdb1902558c4b4868f9f9da1f762a80c,
+            0xbe8edbf3a4243f2034a162fa641a1fc5
+        ]
+    );
+}
