@@ -1,6 +1,10 @@
 -- Laws of reading a query, piece by piece.
-use Rattle.std.proofs.Common.{◌≡◌, ◌∙◌, refl, sym, ap, ℕ, zero, suc, ◌+◌, ◌<◌, ◌≤◌, true, false, List, [], ◌∷◌, length, drop, take, Some, None, Ok, Err, slice_get, arith, add-one}
+use Rattle.std.proofs.Common.{◌≡◌, refl, sym, ap, ℕ, zero, suc, ◌+◌, ◌-◌, ◌/◌, ◌^◌, ◌<◌, ◌≤◌, map, get_or, true, false, List, [], ◌∷◌, length, drop, take, Some, None, Ok, Err, slice_get, arith}
 use Rattle.std.proofs.lemmas.Bool.{le-leb, lt-leb}
+use Rattle.std.proofs.lemmas.Bool.Decides.{nat_tests}
+use Rattle.std.proofs.lemmas.Nat.{le-div}
+use Rattle.std.proofs.Math.Nat.{div-mul-le_self}
+use Rattle.table_schema.specs.Column.{bucket_of, bucket_at}
 use Rattle.std.specs.Str.{bytes_eq}
 use Rattle.text_reading.specs.Cut.{cut_at, pieces, pieces_left}
 use Rattle.table_schema.specs.declared.schema.Column.{Column}
@@ -64,3 +68,31 @@ no_more columns q = refl
 
 pub fewer_left : (bytes : List ℕ) → length (pieces 32 bytes) ≡ suc (length (pieces_left 32 (cut_at 32 bytes).1))
 fewer_left bytes = ap length (pieces_cut 32 bytes)
+
+-- ---- a query that was read is legal
+
+-- a bucket fits its column's bits
+bucket_fits : (k : Column) (raw b : ℕ) → bucket_of k raw ≡ Some b → b < 2 ^ k.bits
+bucket_fits k raw b e = grind (arith, nat_tests)
+
+pub bucket_below : (columns : List Column) (c raw b : ℕ) → bucket_at columns c raw ≡ Some b → b < 2 ^ get_or (map (λ (k : Column). k.bits) columns) c 0
+bucket_below [] c raw b e = absurd cc
+bucket_below (k ∷ ks) zero raw b e = bucket_fits k raw b e
+bucket_below (k ∷ ks) (suc c) raw b e = bucket_below ks c raw b e
+
+bucket_is : (k : Column) (raw b : ℕ) → bucket_of k raw ≡ Some b → b ≡ (raw - k.start) / k.step
+bucket_is k raw b e = grind (arith, nat_tests)
+
+quotients : (a b step : ℕ) → a ≤ b → a / step ≤ b / step
+quotients a b zero h = omega arith
+quotients a b (suc n) h = le-div (a / suc n) b (suc n) (omega arith) (omega (arith, div-mul-le_self a (suc n), h))
+
+in_order : (k : Column) (first last low high : ℕ) → bucket_of k first ≡ Some low → bucket_of k last ≡ Some high → first ≤ last → low ≤ high
+in_order k first last low high e f h =
+    rw (bucket_is k first low e, bucket_is k last high f) (quotients (first - k.start) (last - k.start) k.step (omega arith))
+
+-- buckets stand in the order of their numbers
+pub buckets_in_order : (columns : List Column) (c first last low high : ℕ) → bucket_at columns c first ≡ Some low → bucket_at columns c last ≡ Some high → first ≤ last → low ≤ high
+buckets_in_order [] c first last low high e f h = absurd cc
+buckets_in_order (k ∷ ks) zero first last low high e f h = in_order k first last low high e f h
+buckets_in_order (k ∷ ks) (suc c) first last low high e f h = buckets_in_order ks c first last low high e f h

@@ -1,6 +1,5 @@
 -- What the text of a query means, or its first fault.
-use Rattle.std.specs.Prelude.{ℕ, ◌+◌, ◌&&◌, ◌==◌, not, Bool, List, [], ◌∷◌, length, Option, Some, None, Result, Ok, Err, if◌then◌else◌, nat_le, codes, slice_set, take}
-use Rattle.std.specs.List.{list_any}
+use Rattle.std.specs.Prelude.{ℕ, ◌+◌, ◌&&◌, ◌==◌, not, List, [], ◌∷◌, length, Option, Some, None, Result, Ok, Err, if◌then◌else◌, nat_le, codes, slice_set, take}
 use Rattle.std.specs.Option.{ok_or}
 use Rattle.std.specs.Str.{bytes_eq}
 use Rattle.text_reading.specs.Cut.{cut_at, pieces}
@@ -14,7 +13,7 @@ use Rattle.table_schema.specs.declared.shapes.Kind.{Kind}
 use Rattle.table_schema.specs.declared.shapes.Kind.TheVariants.{Point, AtMost, Interval}
 use Rattle.query_plan.specs.declared.query.Predicate.{Predicate}
 use Rattle.query_plan.specs.declared.query.Query.{Query}
-use Rattle.query_plan.specs.Query.{no_predicate}
+use Rattle.query_plan.specs.Query.{has_column, no_predicate}
 use Rattle.query_plan.specs.declared.query.QueryWhy.{QueryWhy}
 use Rattle.query_plan.specs.declared.query.QueryWhy.TheVariants.{Form, Unknown, Repeated, Domain, Order}
 use Rattle.query_plan.specs.declared.query.QueryFault.{QueryFault}
@@ -74,9 +73,6 @@ column_from i name (k ∷ ks) = if bytes_eq k.name name then Some i else column_
 
 abbrev pub column_named : List ℕ → List Column → Option ℕ
 column_named name columns = column_from 0 name columns
-
-abbrev pub has_column : ℕ → List Predicate → Bool
-has_column c earlier = list_any (λ p. p.column == c) earlier
 
 -- the lowest bucket of a predicate whose first number has this one
 abbrev pub lowest : Kind → ℕ → ℕ

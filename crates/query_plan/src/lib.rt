@@ -6,7 +6,7 @@ mod predicate;
 mod query;
 mod read;
 
-pub use query::{Predicate, Query, QueryFault, QueryWhy};
+pub use query::{Predicate, Query, QueryFault, QueryWhy, shape_of};
 pub use read::read_query;
 
 #[cfg(test)]

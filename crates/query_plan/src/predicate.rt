@@ -1,12 +1,15 @@
-ghost use Rattle.std.specs.Prelude.{◌≡◌, ◌<◌, IfSome, length};
+ghost use Rattle.std.specs.Prelude.{◌≡◌, ◌<◌, IfOk, IfSome, length, map};
+ghost use Rattle.table_schema.specs.declared.schema.Column.{Column};
 ghost use Rattle.text_reading.specs.Reading.{Reads};
-ghost use Rattle.query_plan.specs.Reading.{column_named, has_column, predicate_of};
+ghost use Rattle.query_plan.specs.Query.{has_column, IsNext};
+ghost use Rattle.query_plan.specs.Reading.{column_named, predicate_of};
 
 use crate::form::said;
 use crate::query::{Predicate, QueryWhy};
 use table_schema::{Kind, Schema};
 
 #[tactic(auto, using(crate::proofs::QueryLaws::column_hit, crate::proofs::QueryLaws::column_miss))]
+// The place of the column with the name.
 fn named(schema: &Schema, name: &[u8]) -> Option<u8>
     ensures value { result ≡ column_named name.now schema.now }
     ensures there { IfSome result (λ c. c < length schema.now) }
@@ -20,7 +23,8 @@ fn named(schema: &Schema, name: &[u8]) -> Option<u8>
     None
 }
 
-fn is_taken(c: u8, earlier: &[Predicate]) -> bool
+// Whether one of the predicates has the column.
+pub(crate) fn is_taken(c: u8, earlier: &[Predicate]) -> bool
     ensures { result ≡ has_column c earlier.now }
 {
     for p in earlier {
@@ -32,13 +36,14 @@ fn is_taken(c: u8, earlier: &[Predicate]) -> bool
 }
 
 /// The predicate of a piece behind earlier ones, or its first fault.
-#[tactic(auto, unfolding(crate::specs::Reading::predicate_of))]
+#[tactic(auto, using(crate::proofs::QueryLaws::bucket_below, crate::proofs::QueryLaws::buckets_in_order), unfolding(crate::specs::Reading::predicate_of))]
 pub(crate) fn predicate(
     schema: &Schema,
     earlier: &[Predicate],
     piece: &[u8],
 ) -> Result<Predicate, QueryWhy>
-    ensures { Reads (λ p. p) result (predicate_of schema.now earlier.now piece.now) }
+    ensures exact { Reads (λ p. p) result (predicate_of schema.now earlier.now piece.now) }
+    ensures next { IfOk result (λ p. IsNext (length schema.now) (map (λ (c : Column). c.bits) schema.now) earlier.now p) }
 {
     let Some((name, kind, first, last)) = said(piece) else {
         return Err(QueryWhy::Form);

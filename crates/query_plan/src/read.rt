@@ -1,22 +1,15 @@
-ghost use Rattle.std.specs.Prelude.{◌≡◌, length};
+ghost use Rattle.std.specs.Prelude.{◌≡◌, IfOk, length};
+ghost use Rattle.table_schema.specs.declared.widths.Widths.{Widths};
+ghost use Rattle.query_plan.specs.Query.{AreWidthsOf, Suits};
 ghost use Rattle.text_reading.specs.Reading.{Reads};
 ghost use Rattle.text_reading.specs.Cut.{pieces_left};
 ghost use Rattle.std.specs.Option.{option_copied};
 ghost use Rattle.query_plan.specs.Reading.{aggregate_of, query_of};
 
 use crate::predicate::predicate;
-use crate::query::{Predicate, Query, QueryFault};
-use table_schema::{Aggregate, Kind, Schema};
+use crate::query::{MOST_PREDICATES, NO_PREDICATE, Query, QueryFault};
+use table_schema::{Aggregate, Schema};
 use text_reading::{count_pieces, cut};
-
-const MOST_PREDICATES: usize = 4;
-
-const NO_PREDICATE: Predicate = Predicate {
-    column: 0,
-    kind: Kind::Point,
-    low: 0,
-    high: 0,
-};
 
 #[tactic(auto, unfolding(crate::specs::Reading::aggregate_of))]
 fn aggregate(word: &[u8]) -> Option<Aggregate>
@@ -40,10 +33,12 @@ fn count_left(rest: Option<&[u8]>) -> usize
     }
 }
 
-#[tactic(auto, using(crate::proofs::QueryLaws::no_aggregate, crate::proofs::QueryLaws::too_few, crate::proofs::QueryLaws::too_many, crate::proofs::QueryLaws::begins, crate::proofs::QueryLaws::good_predicate, crate::proofs::QueryLaws::bad_predicate, crate::proofs::QueryLaws::no_more, crate::proofs::QueryLaws::fewer_left))]
-/// The query that a text describes, or the first fault from the left.
+#[tactic(auto, using(crate::proofs::QueryLaws::no_aggregate, crate::proofs::QueryLaws::too_few, crate::proofs::QueryLaws::too_many, crate::proofs::QueryLaws::begins, crate::proofs::QueryLaws::good_predicate, crate::proofs::QueryLaws::bad_predicate, crate::proofs::QueryLaws::no_more, crate::proofs::QueryLaws::fewer_left, crate::proofs::Legal::suits_widths))]
+/// The query that a text describes: `count` or `sum`, then 1 to 4 predicates, cut at each space; or the first
+/// fault from the left. A query that is read is legal over the schema's widths. Costs no memory.
 pub fn read_query(schema: &Schema, text: &str) -> Result<Query, QueryFault>
-    ensures { Reads (λ q. q) result (query_of schema.now text.now) }
+    ensures exact { Reads (λ q. q) result (query_of schema.now text.now) }
+    ensures suits { IfOk result (λ q. (w : Widths) → AreWidthsOf schema.now w → Suits w.columns w.bits q) }
 {
     let (word, after) = cut(text.as_bytes(), b' ');
     let Some(aggregate) = aggregate(word) else {
