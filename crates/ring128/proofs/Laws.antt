@@ -75,6 +75,17 @@ get_or-scaled c [] i h = omega arith
 get_or-scaled c (x ∷ xs) zero h = refl
 get_or-scaled c (x ∷ xs) (suc i) h = get_or-scaled c xs i (omega arith)
 
+-- the sums of two lists that are made place by place
+pub sums-listed : (n : ℕ) (f g : ℕ → ℕ) → sums (listed n f) (listed n g) ≡ listed n (λ i. plus (f i) (g i))
+sums-listed n f g =
+    let long : length (listed n f) ≡ length (listed n g) = length-listed n f ∙ sym (length-listed n g) in
+    let same : length (sums (listed n f) (listed n g)) ≡ n = length-sums (listed n f) (listed n g) long ∙ length-listed n f in
+    ext_get_or 0 _ _ (same ∙ sym (length-listed n (λ i. plus (f i) (g i))))
+    (λ i h. let b : i < n = omega (arith, same) in
+    let c : i < length (listed n f) = omega (arith, length-listed n f) in
+    get_or-sums (listed n f) (listed n g) i long c
+    ∙ simp (get_or-listed n i f 0 b, get_or-listed n i g 0 b, get_or-listed n i (λ i. plus (f i) (g i)) 0 b))
+
 -- three lists of one length, added up
 
 pub length-sums3 : (n : ℕ) (xs ys zs : List ℕ) → IsThree n xs ys zs → length (sums3 xs ys zs) ≡ n
