@@ -1,13 +1,13 @@
 -- The laws of the ring. A goal that is linear in its variables is `omega arith`; one with products is
 -- `simp inward (omega arith)`, which first drops each inner `%`.
-use Rattle.std.proofs.Common.{◌≡◌, ℕ, zero, suc, ◌+◌, ◌*◌, ◌%◌, ◌^◌, ◌<◌, ◌≤◌, List, [], ◌∷◌, length, get_or, drop, refl, sym, ap, ◌∙◌, arith}
+use Rattle.std.proofs.Common.{◌≡◌, ℕ, zero, suc, ◌+◌, ◌*◌, ◌%◌, ◌^◌, ◌<◌, ◌≤◌, List, [], ◌∷◌, ◌++◌, length, get_or, drop, refl, sym, ap, ◌∙◌, arith}
 use Rattle.std.proofs.Math.Nat.{mod-add-mod, add-mod-mod}
 use Rattle.std.proofs.lemmas.Nat.{mul-mod_first, mul-mod_second}
 use Rattle.std.proofs.lemmas.List.{drop_more, drop_all}
 use Rattle.std.proofs.lemmas.List.{ext_get_or}
 use Rattle.list_facts.specs.Listed.{listed}
 use Rattle.list_facts.proofs.Listed.{length-listed, get_or-listed}
-use Rattle.ring128.specs.Ring.{plus, times, dot_of, sums, sums3, scaled}
+use Rattle.ring128.specs.Ring.{plus, times, dot_of, sums, sums3, scaled, total_of}
 use Rattle.ring128.specs.Laws.{IsThree}
 
 pub add-mul-mod : (a c b m : ℕ) → (a + c * (b % m)) % m ≡ (a + c * b) % m
@@ -126,3 +126,8 @@ pub dot_of-sums3_right : (n : ℕ) (ws xs ys zs : List ℕ) → IsThree n xs ys 
 dot_of-sums3_right n ws xs ys zs t =
     dot_of_comm ws (sums3 xs ys zs) ∙ dot_of-sums3 n xs ys zs ws t
     ∙ simp (dot_of_comm xs ws, dot_of_comm ys ws, dot_of_comm zs ws)
+
+pub total_of-append : (xs ys : List ℕ) → total_of (xs ++ ys) ≡ plus (total_of xs) (total_of ys)
+total_of-append [] [] = refl
+total_of-append [] (y ∷ ys) = omega arith
+total_of-append (x ∷ xs) ys = omega (arith, total_of-append xs ys)
