@@ -1,2 +1,3 @@
 pub mod KeyWords
+pub mod Keys
 pub mod Tree

@@ -1,8 +1,9 @@
-ghost use Rattle.std.specs.Prelude.{◌≡◌, ◌≤◌, ◌/◌, ◌%◌, ◌++◌, ◌∷◌, [], OnOk};
+ghost use Rattle.std.specs.Prelude.{◌≡◌};
 
 use crate::Node;
+use crate::key_level::KeyLevel;
 use prg_chacha::{Seed, Side, expand, xor};
-use ring128::Memory;
+use ring128::{Memory, Party};
 
 /// The correction of a level: a seed, and a control bit for either side.
 #[derive(Clone, Copy, Debug, PartialEq, Eq)]
@@ -14,7 +15,6 @@ pub struct Level {
 
 impl Level {
     ghost use Rattle.key_tree.specs.Tree.{control, level_between};
-    ghost use Rattle.key_tree.specs.KeyWords.{level_words};
 
     /// The correction below the nodes of party 0 and party 1 that keeps their bits apart on the side
     /// `keep` and makes their nodes one on the other side.
@@ -45,27 +45,63 @@ impl Level {
             Side::Right => self.right,
         }
     }
+}
 
-    /// The level that has these three words. The control word is the left bit plus twice the right one.
-    pub fn from_words(low: u128, high: u128, control: u128) -> Level
-        requires { control ≤ 3 }
-        ensures { level_words result ≡ low ∷ high ∷ control ∷ [] }
-    {
-        Level {
-            seed: Seed::from_halves(low, high),
-            left: control % 2 == 1,
-            right: control / 2 == 1,
-        }
+// The levels of point keys, whose walks carry nodes.
+impl KeyLevel for Level {
+    ghost use Rattle.key_tree.specs.Tree.{start, step, leaf_number};
+    ghost use Rattle.key_tree.specs.KeyWords.{level_words, level_read};
+    ghost use Rattle.std.proofs.Common.{rules};
+
+    type Place = Node;
+
+    ghost WIDTH = { 3 };
+
+    ghost top = { start };
+
+    ghost below = { step };
+
+    ghost number = { leaf_number };
+
+    ghost words = { level_words };
+
+    ghost read = { level_read };
+
+    ghost wide = { Prim.search rules };
+
+    ghost long = { Prim.search rules };
+
+    const WIDTH: usize = 3;
+
+    fn top(party: Party, root: &Seed) -> Node {
+        Node::start(party, root)
     }
 
-    /// Appends the three words of the level.
-    pub fn push_words(&self, words: &mut Vec<u128>) -> Result<(), Memory>
-        ensures { OnOk result (words.new.items ≡ words.old.items ++ level_words self.now) }
-    {
+    fn below(&self, place: &Node, side: Side) -> Node {
+        place.step(self, side)
+    }
+
+    fn both(&self, place: &Node) -> (Node, Node) {
+        place.children(self)
+    }
+
+    fn number(last: u128, place: &Node) -> u128 {
+        place.number(last)
+    }
+
+    fn push_words(&self, to: &mut Vec<u128>) -> Result<(), Memory> {
         let (low, high) = self.seed.halves();
-        words.push(low)?;
-        words.push(high)?;
-        words.push(u128::from(self.left) + 2 * u128::from(self.right))?;
+        to.push(low)?;
+        to.push(high)?;
+        to.push(u128::from(self.left) + 2 * u128::from(self.right))?;
         Ok(())
+    }
+
+    fn read(from: &[u128]) -> Level {
+        Level {
+            seed: Seed::from_halves(from[0], from[1]),
+            left: from[2] % 2 == 1,
+            right: from[2] / 2 % 2 == 1,
+        }
     }
 }

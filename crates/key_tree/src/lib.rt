@@ -20,13 +20,17 @@
 #![tactic(auto)]
 
 mod fault;
+mod key_level;
 mod leaf;
 mod level;
 mod node;
 mod side;
+mod tree_key;
 
 pub use fault::KeyFault;
+pub use key_level::{KeyLevel, descend, write_values};
 pub use leaf::{last_word, of_party, signed};
 pub use level::Level;
 pub use node::Node;
 pub use side::side_of;
+pub use tree_key::{TreeKey, table, value};
