@@ -1,0 +1,21 @@
+-- Visits, one by one.
+use Rattle.std.proofs.Common.{◌≡◌, ◌∙◌, refl, sym, ap, ℕ, zero, suc, ◌+◌, ◌<◌, ◌≤◌, List, [], ◌∷◌, ◌++◌, length, take, map, arith, append_assoc}
+use Rattle.std.specs.List.{range_with_len}
+use Rattle.std.proofs.lemmas.List.FromFn.{map-range_with_len_more, take-map-range_with_len}
+use Rattle.scan_chunks.specs.Pieces.{chunks_of}
+use Rattle.scan_chunks.specs.Shelf.{Held}
+use Rattle.scan_chunks.specs.Scan.{visits_of}
+use Rattle.scan_chunks.specs.declared.visit.Visit.{Visit}
+
+abbrev pub visit_at : Held → ℕ → ℕ → Visit
+visit_at h column c = record { column = column; chunk = h.start + c }
+
+-- the first visits
+abbrev pub visits_to : Held → ℕ → ℕ → List Visit
+visits_to h column n = map (visit_at h column) (range_with_len 0 n)
+
+pub visits_more : (h : Held) (column n : ℕ) → visits_to h column (n + 1) ≡ visits_to h column n ++ visit_at h column n ∷ []
+visits_more h column n = map-range_with_len_more (visit_at h column) 0 n n (omega arith)
+
+pub visits_part : (h : Held) (column n : ℕ) → n ≤ chunks_of h.rows → visits_to h column n ≡ take n (visits_of h column)
+visits_part h column n le = sym (take-map-range_with_len (visit_at h column) 0 (chunks_of h.rows) n le)
