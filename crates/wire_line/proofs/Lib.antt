@@ -1,0 +1,3 @@
+pub mod Amounts
+pub mod Below
+pub mod OneShifted

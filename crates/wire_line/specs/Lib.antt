@@ -1,0 +1,5 @@
+pub mod Carried
+pub mod Messages
+pub mod ShiftLaws
+pub mod Shifts
+pub mod Shown
