@@ -14,15 +14,16 @@ use Rattle.onehot_column.specs.Code.{word_of}
 use Rattle.query_plan.specs.declared.query.Predicate.{Predicate}
 use Rattle.query_plan.specs.declared.query.Query.{Query}
 use Rattle.query_plan.specs.Query.{predicate_at}
-use Rattle.transcript.specs.Plain.{is_inside, passes, answer_of, plain}
+use Rattle.transcript.specs.Plain.{passes, answer_of, plain}
+use Rattle.query_plan.specs.Views.{is_inside, key_from}
 use Rattle.transcript.specs.Setup.{Setup, count_of}
 use Rattle.transcript.specs.Steps.{Step, bits, product, opening, IsStep, group_of, place_of}
 use Rattle.wire_line.specs.Messages.{IsHonest}
 use Rattle.wire_line.specs.Carried.{honest_at}
 use Rattle.transcript.specs.Transcript.{IsTranscript, seat_of}
-use Rattle.transcript.specs.Laws.{key_of, RunsOpen, PairOpens}
+use Rattle.transcript.specs.Laws.{RunsOpen, PairOpens}
 use Rattle.transcript.specs.Shifts.{realigned_seat, realigned_words, shift_of, shifted_chain, row_bit, no_row, chain_sum}
-use Rattle.transcript.proofs.Steps.{chain_of, chain_is, key_of-below, total_passing, dot_of_passing, word_of-below}
+use Rattle.transcript.proofs.Steps.{chain_of, chain_is, key_from-below, total_passing, dot_of_passing, word_of-below}
 use Rattle.transcript.proofs.Seats.{SameUpTo, words_same}
 use Rattle.transcript.proofs.Shares.{message_of, there, fits_at}
 use Rattle.transcript.proofs.Shifted.{bit_of, count_is, shifted_open}
@@ -83,13 +84,13 @@ chains_are query weights rows shift count j none h =
 
 -- a row's chain is the key where the row passes
 passing_chain : (query : Query) (weights : ℕ → ℕ) (row : Row) → 0 < query.count
-    → chain_of (bit_of query weights) (query.count - 1) row ≡ cond (passes query row) (key_of weights (query.count)) 0
+    → chain_of (bit_of query weights) (query.count - 1) row ≡ cond (passes query row) (key_from weights (query.count)) 0
 passing_chain query weights row some =
     let last = query.count - 1 in
     let whole : suc last ≡ query.count = omega arith in
     let inside = λ (p : Predicate) (row : Row). is_inside p (get_or row.buckets p.column 0) in
     chain_is (predicate_at query) weights inside row last
-    ∙ ap (λ (n : ℕ). cond (list_all (λ (p : Predicate). inside p row) (listed n (predicate_at query))) (key_of weights n) 0) whole
+    ∙ ap (λ (n : ℕ). cond (list_all (λ (p : Predicate). inside p row) (listed n (predicate_at query))) (key_from weights n) 0) whole
 
 answers : (a : Aggregate) (f : Row → ℕ) (p : Row → Bool) (key : ℕ) → key < 2 ^ 128 → ((row : Row) → f row ≡ cond (p row) key 0) → (rows : List Row)
     → chain_sum a (map f rows) (map (λ (row : Row). word_of row.value) rows) ≡ times key (word_of (answer_of a (filter p rows)))
@@ -104,22 +105,22 @@ runs_open s query weights rows ms run two asks t honest =
     let some : 0 < count = omega arith in
     let none : (u : Step) (i : ℕ) → IsStep count u → shift_of s ms 0 run u i ≡ 0 = λ u i h. shift_is s ms run u 0 i two t honest h (omega arith) in
     let values = map (λ (row : Row). word_of row.value) rows in
-    let key = key_of (weights run) (query.count) in
+    let key = key_from (weights run) (query.count) in
     shifted_open s query weights rows ms run 0 two (omega arith) asks t (λ i b _ _. honest_at ms i honest b)
     ∙ rw (
       chains_are query (weights run) rows (shift_of s ms 0 run) count last none within,
       none opening 0 some,
-      answers query.aggregate (chain_of (bit_of query (weights run)) last) (passes query) key (key_of-below (weights run) (query.count))
+      answers query.aggregate (chain_of (bit_of query (weights run)) last) (passes query) key (key_from-below (weights run) (query.count))
           (λ row. passing_chain query (weights run) row asks.suits.some) rows,
     ) (omega arith)
 
-key_of-ones : (weights : ℕ → ℕ) (n : ℕ) → ((j : ℕ) → weights j ≡ 1) → key_of weights n ≡ 1
-key_of-ones weights zero h = refl
-key_of-ones weights (suc n) h = rw (key_of-ones weights n h, h n)
+key_from-ones : (weights : ℕ → ℕ) (n : ℕ) → ((j : ℕ) → weights j ≡ 1) → key_from weights n ≡ 1
+key_from-ones weights zero h = refl
+key_from-ones weights (suc n) h = rw (key_from-ones weights n h, h n)
 
 pub pair_opens : PairOpens
 pair_opens s query weights rows ms ones asks t honest =
     let answer = plain query rows in
     let first = runs_open s query weights rows ms 0 (omega arith) asks t honest in
-    let one = key_of-ones (weights 0) (query.count) ones in
+    let one = key_from-ones (weights 0) (query.count) ones in
     (first ∙ rw one (omega (arith, word_of-below answer)), runs_open s query weights rows ms 1 (omega arith) asks t honest)

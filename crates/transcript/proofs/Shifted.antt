@@ -1,5 +1,5 @@
 -- What a run opens where all altered messages have one server as an end.
-use Rattle.std.proofs.Common.{◌≡◌, ◌≢◌, ℕ, zero, suc, ◌+◌, ◌*◌, ◌-◌, ◌%◌, ◌^◌, ◌<◌, ◌≤◌, true, false, List, [], ◌∷◌, length, get_or, map, refl, sym, ap, ⊎_elim, ◌∙◌, arith, eqb, length-append}
+use Rattle.std.proofs.Common.{◌≡◌, ◌≢◌, ℕ, zero, suc, ◌+◌, ◌*◌, ◌-◌, ◌%◌, ◌^◌, ◌<◌, ◌≤◌, true, false, List, [], ◌∷◌, length, get_or, map, refl, sym, ap, subst, ⊎_elim, ◌∙◌, arith, eqb, ltb, lt-ltb, length-append}
 use Rattle.std.specs.List.{flat_map}
 use Rattle.std.proofs.lemmas.List.{ext_get_or, get_or-map, length-map}
 use Rattle.std.proofs.lemmas.Bool.{cases_Bool, eq-eqb}
@@ -22,13 +22,13 @@ use Rattle.table_schema.specs.declared.widths.Widths.{Widths}
 use Rattle.onehot_column.specs.Code.{word_of, width_of, code_at}
 use Rattle.query_plan.specs.declared.query.Predicate.{Predicate}
 use Rattle.query_plan.specs.declared.query.Query.{Query}
-use Rattle.query_plan.specs.Query.{predicate_at, shape_of, no_predicate}
+use Rattle.query_plan.specs.Query.{predicate_at, shaped, no_predicate, Suits, IsPlaced}
 use Rattle.query_plan.specs.Query.{part_of as part_of_predicate}
 use Rattle.transcript.specs.Setup.{Setup, count_of, column_of}
 use Rattle.transcript.specs.Steps.{Step, bits, product, opening, counter_of, chain_step, after}
 use Rattle.transcript.specs.Formulas.{product_words, opening_share}
 use Rattle.transcript.specs.Transcript.{opened_of}
-use Rattle.transcript.specs.Laws.{weight_inside}
+use Rattle.query_plan.specs.Views.{IsTablePair, weight_inside}
 use Rattle.transcript.specs.Shifts.{shift_of, shifted_chain, row_bit, no_row, chain_sum, ShiftedOpen}
 use Rattle.transcript.proofs.Sums.{total_of-sums3}
 use Rattle.transcript.proofs.Steps.{bits_shares, bits_of_rows, openings_add_up}
@@ -36,10 +36,10 @@ use Rattle.transcript.proofs.Places.{IsStep-chain}
 use Rattle.transcript.proofs.Shares.{IsCase, share, base, base_is, message_of, got_other, client_apart, three_chain, three_bits, share_long, sent_chain_long}
 
 -- the shape says how many predicates there are, whether values are summed, and each predicate's column
-pub count_is : (s : Setup) (query : Query) → s.sizes.shape ≡ shape_of query → count_of s.sizes ≡ query.count
+pub count_is : (s : Setup) (query : Query) → s.sizes.shape ≡ shaped query → count_of s.sizes ≡ query.count
 count_is s query e = ap (λ (shape : Shape). shape.count) e
 
-aggregate_is : (s : Setup) (query : Query) → s.sizes.shape ≡ shape_of query → s.sizes.shape.aggregate ≡ query.aggregate
+aggregate_is : (s : Setup) (query : Query) → s.sizes.shape ≡ shaped query → s.sizes.shape.aggregate ≡ query.aggregate
 aggregate_is s query e = ap (λ (shape : Shape). shape.aggregate) e
 
 part_at : (ps : List Predicate) (j : ℕ) → get_or (map part_of_predicate ps) j (part_of_predicate no_predicate) ≡ part_of_predicate (get_or ps j no_predicate)
@@ -47,9 +47,15 @@ part_at [] j = refl
 part_at (p ∷ ps) zero = refl
 part_at (p ∷ ps) (suc j) = part_at ps j
 
-column_is : (s : Setup) (query : Query) → s.sizes.shape ≡ shape_of query → (j : ℕ) → column_of s.sizes j ≡ (predicate_at query j).column
+column_is : (s : Setup) (query : Query) → s.sizes.shape ≡ shaped query → (j : ℕ) → column_of s.sizes j ≡ (predicate_at query j).column
 column_is s query e j =
     ap (λ (shape : Shape). (get_or shape.parts j (part_of_predicate no_predicate)).column) e ∙ ap (λ (part : Part). part.column) (part_at query.predicates j)
+
+column_there : (columns : ℕ) (widths : List ℕ) (query : Query) (j : ℕ) → Suits columns widths query → j < query.count → (predicate_at query j).column < columns
+column_there columns widths query j suits h =
+    let yes : ltb j query.count ≡ true = lt-ltb j query.count h in
+    let placed : IsPlaced columns widths query j = suits.placed j (omega (arith, suits.few)) in
+    (rw yes at placed).legal.column
 
 drop_mod : (a b : ℕ) → plus (a % 2 ^ 128) b ≡ plus a b
 drop_mod a b = omega arith
@@ -120,13 +126,16 @@ base_bits_is s query weights rows ms run server g j k h b =
     let v = s.read (s.keys k) in
     let a = g.asks in
     let p : j < query.count = omega (arith, count_is s query a.shape) in
-    let near : (predicate_at query j).column ≤ s.sizes.widths.columns = omega (arith, (a.suits.legal.each j p).column) in
+    let near : (predicate_at query j).column ≤ s.sizes.widths.columns = omega (arith, column_there s.sizes.widths.columns s.sizes.widths.bits query j a.suits p) in
     let shared = a.hold.shared (predicate_at query j).column near in
     base_is s query weights rows ms run server g (bits j) k h b
     ∙ ap
     (λ (c : ℕ). bits_shares s.sizes.rows (width_of s.sizes.widths c) (v.party0 run j) (v.party1 run j) ((s.pieces k).first c) ((s.pieces k).second c) v.own v.next (counter_of (count_of s.sizes) run (bits j)))
     (column_is s query a.shape j)
     ∙ rw (shared.next k b, a.keys.seeds k b)
+
+pair_along : (v w : ℕ) (table0 table1 : List ℕ) (whole : ℕ → ℕ) → v ≡ w → IsTablePair v table0 table1 whole → IsTablePair w table0 table1 whole
+pair_along v w table0 table1 whole e pair = let P : ℕ → Type 0 = λ n. IsTablePair n table0 table1 whole in subst P e pair
 
 base_bits_sum : (s : Setup) (query : Query) (weights : ℕ → ℕ → ℕ) (rows : List Row) (ms : List Message) (run server : ℕ)
     → IsCase s query weights rows ms run server → (j : ℕ) → j < count_of s.sizes
@@ -139,15 +148,16 @@ base_bits_sum s query weights rows ms run server g j h =
     let v = λ (k : ℕ). s.read (s.keys k) in
     let x = λ (k : ℕ). (s.pieces k).first c in
     let p : j < query.count = omega (arith, count_is s query a.shape) in
-    let there : c < s.sizes.widths.columns = (a.suits.legal.each j p).column in
+    let there : c < s.sizes.widths.columns = column_there s.sizes.widths.columns s.sizes.widths.bits query j a.suits p in
     let near : c ≤ s.sizes.widths.columns = omega arith in
     let no : eqb c s.sizes.widths.columns ≡ false = grind arith in
     let narrow : c < 6 = omega (arith, s.sizes.widths.legal.1) in
     let shared = a.hold.shared c near in
     let long : length (flat_map (code_at s.sizes.widths c) rows) ≡ s.sizes.rows * w = length-codes s.sizes.widths c rows ∙ ap (λ (n : ℕ). n * w) (sym a.long) in
-    let pair0 = a.keys.pairs run j 0 g.two p (omega arith) in
-    let pair1 = a.keys.pairs run j 1 g.two p (omega arith) in
-    let pair2 = a.keys.pairs run j 2 g.two p (omega arith) in
+    let wide : 2 ^ get_or s.sizes.widths.bits c 0 ≡ w = rw no in
+    let pair0 = pair_along _ w _ _ _ wide (a.keys.pairs run j 0 g.two p (omega arith)) in
+    let pair1 = pair_along _ w _ _ _ wide (a.keys.pairs run j 1 g.two p (omega arith)) in
+    let pair2 = pair_along _ w _ _ _ wide (a.keys.pairs run j 2 g.two p (omega arith)) in
     let at = λ (k : ℕ) (b : k < 3). base_bits_is s query weights rows ms run server g j k h b in
     rw (at 0 (omega arith), at 1 (omega arith), at 2 (omega arith))
     (bits_of_rows s.sizes.rows w (counter_of (count_of s.sizes) run (bits j))

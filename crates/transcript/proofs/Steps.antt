@@ -18,7 +18,7 @@ use Rattle.table_schema.specs.declared.rows.Row.{Row}
 use Rattle.onehot_column.specs.Code.{word_of}
 use Rattle.query_plan.specs.declared.query.Predicate.{Predicate}
 use Rattle.transcript.specs.Plain.{sum_of}
-use Rattle.transcript.specs.Laws.{key_of}
+use Rattle.query_plan.specs.Views.{key_from}
 use Rattle.scan_chunks.specs.Pieces.{row_of}
 use Rattle.transcript.proofs.Sums.{bits_add_up, dot_of-code, row_of-sums3, row_of-flat_map, length-row_of}
 
@@ -68,9 +68,9 @@ first_cond : (p : Bool) (b : ℕ) → cond p b 0 % 2 ^ 128 ≡ cond p (times 1 b
 first_cond true b = omega arith
 first_cond false b = omega arith
 
-pub key_of-below : (weights : ℕ → ℕ) (n : ℕ) → key_of weights n < 2 ^ 128
-key_of-below weights zero = omega arith
-key_of-below weights (suc n) = omega arith
+pub key_from-below : (weights : ℕ → ℕ) (n : ℕ) → key_from weights n < 2 ^ 128
+key_from-below weights zero = omega arith
+key_from-below weights (suc n) = omega arith
 
 and_true : (p : Bool) → (p && true) ≡ p
 and_true true = refl
@@ -85,12 +85,12 @@ all_more test f n =
 -- a row's chain is the key so far where it passes the first predicates
 pub chain_is : (at : ℕ → Predicate) (weights : ℕ → ℕ) (inside : Predicate → Row → Bool) (row : Row) (j : ℕ)
     → chain_of (λ i r. cond (inside (at i) r) (weights i) 0 % 2 ^ 128) j row
-    ≡ cond (list_all (λ p. inside p row) (listed (suc j) at)) (key_of weights (suc j)) 0
+    ≡ cond (list_all (λ p. inside p row) (listed (suc j) at)) (key_from weights (suc j)) 0
 chain_is at weights inside row zero =
     rw (all_more (λ p. inside p row) at 0) (first_cond (inside (at 0) row) (weights 0))
 chain_is at weights inside row (suc j) =
     rw (all_more (λ p. inside p row) at (suc j), chain_is at weights inside row j)
-    (times_cond (list_all (λ p. inside p row) (listed (suc j) at)) (inside (at (suc j)) row) (key_of weights (suc j)) (weights (suc j)))
+    (times_cond (list_all (λ p. inside p row) (listed (suc j) at)) (inside (at (suc j)) row) (key_from weights (suc j)) (weights (suc j)))
 
 plus_times : (b : Bool) (key v n : ℕ) → plus (times (cond b key 0) v) (times key n) ≡ times key (plus (cond b v 0) n)
 plus_times true key v n = simp inward (omega arith)

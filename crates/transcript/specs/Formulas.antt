@@ -8,7 +8,8 @@ use Rattle.scan_chunks.specs.Pieces.{Pieces, row_of}
 use Rattle.table_schema.specs.declared.shapes.Aggregate.{Aggregate}
 use Rattle.table_schema.specs.declared.shapes.Aggregate.TheVariants.{Count, Sum}
 use Rattle.onehot_column.specs.Code.{width_of}
-use Rattle.transcript.specs.Setup.{Sizes, View, count_of, column_of}
+use Rattle.transcript.specs.Setup.{Sizes, count_of, column_of}
+use Rattle.query_plan.specs.Views.{View}
 use Rattle.transcript.specs.Steps.{Step, bits, product, opening, counter_of, chain_step}
 
 -- bits of predicate j, a number a row: the server's two tables at the row's two pieces, and a zero part

@@ -1,5 +1,5 @@
 -- The plain answer of a query.
-use Rattle.std.specs.Prelude.{ℕ, ℤ, pos, ◌+ℤ◌, ◌&&◌, Bool, nat_le, List, [], ◌∷◌, length, filter, map, slice_index}
+use Rattle.std.specs.Prelude.{ℤ, pos, ◌+ℤ◌, Bool, List, [], ◌∷◌, length, filter, map, slice_index}
 use Rattle.std.specs.List.{list_all}
 use Rattle.list_facts.specs.Listed.{listed}
 use Rattle.table_schema.specs.declared.rows.Row.{Row}
@@ -8,14 +8,11 @@ use Rattle.table_schema.specs.declared.shapes.Aggregate.TheVariants.{Count, Sum}
 use Rattle.query_plan.specs.declared.query.Predicate.{Predicate}
 use Rattle.query_plan.specs.declared.query.Query.{Query}
 use Rattle.query_plan.specs.Query.{predicate_at}
+use Rattle.query_plan.specs.Views.{is_inside}
 
 -- the predicates of a query, in order
 abbrev pub predicates_of : Query → List Predicate
 predicates_of query = listed query.count (predicate_at query)
-
--- whether a bucket is from a predicate's low to its high
-abbrev pub is_inside : Predicate → ℕ → Bool
-is_inside p bucket = nat_le p.low bucket && nat_le bucket p.high
 
 -- whether a row passes each predicate
 abbrev pub passes : Query → Row → Bool

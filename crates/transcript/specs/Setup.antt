@@ -1,6 +1,6 @@
 -- What the messages of a query rest on.
 use Rattle.std.specs.Prelude.{ℕ, List, slice_index_or}
-use Rattle.prg_chacha.specs.declared.seed.Seed.{Seed}
+use Rattle.query_plan.specs.Views.{View}
 use Rattle.scan_chunks.specs.Pieces.{Pieces}
 use Rattle.table_schema.specs.declared.shapes.Part.{Part}
 use Rattle.table_schema.specs.declared.shapes.Kind.TheVariants.{Point}
@@ -20,13 +20,6 @@ count_of z = z.shape.count
 -- the column of predicate j
 abbrev pub column_of : Sizes → ℕ → ℕ
 column_of z j = let part : Part = slice_index_or z.shape.parts j (record { column = 0; kind = Point }) in part.column
-
--- what a server reads from its key message: two seeds of zero parts, and by run and predicate the tables of its two keys
-pub record View : Type 0 where
-  pub own : Seed
-  pub next : Seed
-  pub party0 : ℕ → ℕ → List ℕ
-  pub party1 : ℕ → ℕ → List ℕ
 
 -- a query at three servers: its sizes, the key words that the client makes for each server, what a server reads from key words,
 -- and the pieces of each server's rows

@@ -14,7 +14,8 @@ use Rattle.transcript.specs.Steps.{Step, bits, product, opening, place_of, peer_
 use Rattle.transcript.specs.Formulas.{Seat, words_of}
 use Rattle.wire_line.specs.Messages.{message_at}
 use Rattle.transcript.specs.Transcript.{IsTranscript, opened_of}
-use Rattle.transcript.specs.Laws.{Asks, weight_inside}
+use Rattle.transcript.specs.Laws.{Asks}
+use Rattle.query_plan.specs.Views.{weight_inside}
 
 -- each message without this server at its ends was received as it was sent
 abbrev pub OneAltered : ℕ → List Message → Type 0
