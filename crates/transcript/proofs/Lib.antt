@@ -1,0 +1,9 @@
+pub mod Sums
+pub mod Steps
+pub mod Places
+pub mod Seats
+pub mod Shares
+pub mod Shifted
+pub mod Honest
+pub mod Small
+pub mod Lengths

@@ -1,0 +1,59 @@
+-- What a query opens where nothing was altered.
+use Rattle.std.specs.Prelude.{ℕ, pos, ◌≡◌, ◌<◌, ◌≤◌, ◌^◌, List, length, All}
+use Rattle.ring128.specs.Ring.{times}
+use Rattle.wire_line.specs.declared.message.Message.{Message}
+use Rattle.table_schema.specs.declared.rows.Row.{Row}
+use Rattle.table_schema.specs.declared.widths.Widths.{Widths}
+use Rattle.table_schema.specs.Widths.{Holds}
+use Rattle.onehot_column.specs.Code.{word_of}
+use Rattle.query_plan.specs.declared.query.Query.{Query}
+use Rattle.query_plan.specs.Query.{shaped, Suits}
+use Rattle.query_plan.specs.Views.{AreKeys, key_from}
+use Rattle.transcript.specs.Plain.{plain}
+use Rattle.transcript.specs.Setup.{Setup, Sizes, count_of}
+use Rattle.transcript.specs.Steps.{Step, bits, product, opening, IsStep, place_of}
+use Rattle.wire_line.specs.Messages.{IsHonest, message_at}
+use Rattle.transcript.specs.Transcript.{IsTranscript, opened_of}
+use Rattle.transcript.specs.Rows.{HoldRows}
+
+-- a query over three servers that hold these rows, with the keys of this query and these weights
+pub record Asks (s : Setup) (query : Query) (weights : ℕ → ℕ → ℕ) (rows : List Row) : Type 0 where
+  pub suits : Suits s.sizes.widths.columns s.sizes.widths.bits query
+  pub shape : s.sizes.shape ≡ shaped query
+  pub keys : AreKeys s.sizes.widths.bits (λ k. s.read (s.keys k)) query weights
+  pub hold : HoldRows s.sizes.widths rows s.pieces
+  pub long : s.sizes.rows ≡ length rows
+
+-- where nothing was altered, a run opens its key times the plain answer
+abbrev pub RunsOpen : Type 0
+RunsOpen =
+    (s : Setup) (query : Query) (weights : ℕ → ℕ → ℕ) (rows : List Row) (ms : List Message) (run : ℕ) → run < 2
+    → Asks s query weights rows → IsTranscript s ms → IsHonest ms
+    → opened_of s ms run ≡ times (key_from (weights run) (query.count)) (word_of (plain query rows))
+
+-- where the weights of run 0 are 1 and nothing was altered, the total is the plain answer, and the weighted total is the key times it
+abbrev pub PairOpens : Type 0
+PairOpens =
+    (s : Setup) (query : Query) (weights : ℕ → ℕ → ℕ) (rows : List Row) (ms : List Message) → ((j : ℕ) → weights 0 j ≡ 1)
+    → Asks s query weights rows → IsTranscript s ms → IsHonest ms
+    → let answer = word_of (plain query rows) in
+    (opened_of s ms 0 ≡ answer) × (opened_of s ms 1 ≡ times (key_from (weights 1) (query.count)) answer)
+
+-- a plain answer is a small natural number, and so its own word
+abbrev pub PlainIsSmall : Type 0
+PlainIsSmall =
+    (w : Widths) (query : Query) (rows : List Row) → All (Holds w) rows → length rows ≤ 65536
+    → let answer = plain query rows in (answer ≡ pos (word_of answer)) × (word_of answer < 2 ^ 48)
+
+-- how many words a message of a step has
+abbrev pub step_length : Sizes → Step → ℕ
+step_length z (bits j) = z.rows
+step_length z (product j) = z.rows
+step_length z opening = 1
+
+-- the lengths of a transcript's messages rest on the sizes alone, whatever was altered
+abbrev pub LengthsAreSizes : Type 0
+LengthsAreSizes =
+    (s : Setup) (ms : List Message) (run : ℕ) (step : Step) (k : ℕ) → run < 2 → IsStep (count_of s.sizes) step → k < 3 → IsTranscript s ms
+    → let m = message_at ms (place_of (count_of s.sizes) run step k) in
+    (length m.sent ≡ step_length s.sizes step) × (length m.received ≡ step_length s.sizes step)

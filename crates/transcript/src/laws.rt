@@ -1,0 +1,31 @@
+//! Laws of the definitions, as functions without effect: the clause of each is the law.
+
+ghost use Rattle.transcript.specs.Laws.{RunsOpen, PairOpens, PlainIsSmall, LengthsAreSizes};
+ghost use Rattle.transcript.specs.Shifts.{ShiftedOpen};
+
+/// Where nothing was altered and the servers hold rows, a run opens its key times the plain answer.
+pub fn runs_open()
+    ensures { RunsOpen }
+{}
+
+/// The same for both runs, where the weights of run 0 are 1: the total is the plain answer, and the weighted total the key
+/// times it.
+pub fn pair_opens()
+    ensures { PairOpens }
+{}
+
+/// Where all altered messages have one server as their sender or receiver, a run opens the sum of the rows' chains under
+/// the shifts of that server's messages.
+pub fn shifted_open()
+    ensures { ShiftedOpen }
+{}
+
+/// The plain answer of at most 65,536 rows that the widths hold is a natural number below 2^48.
+pub fn plain_is_small()
+    ensures { PlainIsSmall }
+{}
+
+/// How many words a message of a step has rests on the number of rows alone, whatever was altered.
+pub fn lengths_are_sizes()
+    ensures { LengthsAreSizes }
+{}
