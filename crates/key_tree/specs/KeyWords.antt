@@ -36,11 +36,15 @@ key_words words k = low_of k.root ∷ high_of k.root ∷ (flat_map words k.level
 abbrev pub words_at : ℕ → List ℕ → ℕ → List ℕ
 words_at width ws i = take width (drop (2 + width * i) ws)
 
+-- the first levels that a list of words has
+abbrev pub levels_read : {L : Type 0} → (List ℕ → L) → ℕ → List ℕ → ℕ → List L
+levels_read read width ws n = listed n (λ i. read (words_at width ws i))
+
 -- the key of so many bits that a list of words is
 abbrev pub key_read : {L : Type 0} → (List ℕ → L) → ℕ → ℕ → List ℕ → Key L
 key_read read width bits ws = record {
   root = from_halves_of (slice_index ws 0) (slice_index ws 1);
-  levels = listed bits (λ i. read (words_at width ws i));
+  levels = levels_read read width ws bits;
   last = slice_index ws (2 + width * bits);
 }
 

@@ -21,6 +21,7 @@
 
 mod fault;
 mod key_level;
+mod key_words;
 mod leaf;
 mod level;
 mod node;
@@ -29,6 +30,7 @@ mod tree_key;
 
 pub use fault::KeyFault;
 pub use key_level::{KeyLevel, descend, write_values};
+pub use key_words::{from_words, length, to_words};
 pub use leaf::{last_word, of_party, signed};
 pub use level::Level;
 pub use node::Node;

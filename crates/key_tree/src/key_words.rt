@@ -1,0 +1,66 @@
+// Keys as lists of words.
+
+ghost use Rattle.std.specs.Prelude.{◌≡◌, ◌≤◌, IfOk, IfErr, length};
+ghost use Rattle.key_tree.specs.KeyWords.{length_of, key_words, key_read, control_at, HasFault};
+
+use crate::fault::KeyFault;
+use crate::key_level::KeyLevel;
+use crate::tree_key::TreeKey;
+use prg_chacha::Seed;
+use ring128::{Memory, Words};
+use std::alloc::Global;
+
+/// How many words a key of so many bits has: two for the root, those of each level, and the last word.
+pub fn length<L: KeyLevel>(bits: u8) -> u64
+    ensures { result ≡ length_of L.WIDTH bits }
+{
+    3 + L::WIDTH as u64 * u64::from(bits)
+}
+
+/// The words of a key.
+pub fn to_words<L: KeyLevel>(alloc: Global, key: &TreeKey<L>) -> Result<Words, Memory>
+    ensures words { IfOk result (λ w. w ≡ key_words L.words key.now) }
+    ensures undone { IfOk result (λ w. key_read L.read L.WIDTH (length key.now.levels) w ≡ key.now) }
+{
+    let mut words = Vec::with_capacity(alloc, 3 + L::WIDTH * key.levels.len())?;
+    let (low, high) = key.root.halves();
+    words.push(low)?;
+    words.push(high)?;
+    for level in &key.levels {
+        level.push_words(&mut words)?;
+    }
+    words.push(key.last)?;
+    Ok(Words::from_vec(words))
+}
+
+/// The key of so many bits that has these words. Every list of the right length whose control words are
+/// at most 3 is one.
+pub fn from_words<L: KeyLevel>(
+    alloc: Global,
+    bits: u8,
+    words: &[u128],
+) -> Result<TreeKey<L>, KeyFault>
+    requires { bits ≤ 8 }
+    ensures key { IfOk result (λ k. k ≡ key_read L.read L.WIDTH bits words.now) }
+    ensures bits { IfOk result (λ k. length k.levels ≡ bits) }
+    ensures undone { IfOk result (λ k. key_words L.words k ≡ words.now) }
+    ensures fault { IfErr result (HasFault (length words.now) (length_of L.WIDTH bits) bits (control_at L.WIDTH words.now)) }
+{
+    let wanted = length::<L>(bits);
+    if words.len() as u64 != wanted {
+        return Err(KeyFault::Length {
+            had: words.len() as u64,
+            wanted,
+        });
+    }
+    let mut levels = Vec::with_capacity(alloc, bits as usize)?;
+    for i in 0..bits {
+        let at = 2 + L::WIDTH * i as usize;
+        if words[at + 2] > 3 {
+            return Err(KeyFault::Bits { level: i });
+        }
+        levels.push(L::read(&words[at..at + L::WIDTH]))?;
+    }
+    let root = Seed::from_halves(words[0], words[1]);
+    Ok(TreeKey::new(root, levels, words[words.len() - 1]))
+}
