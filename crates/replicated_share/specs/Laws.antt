@@ -1,5 +1,5 @@
 -- What the shares of three servers add up to.
-use Rattle.std.specs.Prelude.{ℕ, ◌≡◌, ◌<◌, ◌+◌, ◌%◌, ◌^◌, List, All, length, slice_index}
+use Rattle.std.specs.Prelude.{ℕ, ◌≡◌, ◌<◌, ◌+◌, ◌%◌, ◌^◌, List, ◌++◌, All, length, take, drop, slice_index}
 use Rattle.prg_chacha.specs.declared.seed.Seed.{Seed}
 use Rattle.ring128.specs.Ring.{plus, times}
 use Rattle.replicated_share.specs.declared.pair.Pair.{Pair}
@@ -15,6 +15,16 @@ SplitShares = (s : Seed) (values : List ℕ) → All (λ v. v < 2 ^ 128) values
 abbrev pub SharesReveal : Type 0
 SharesReveal = (first second : ℕ → List ℕ) (whole : List ℕ) (i : ℕ) → AreShares first second whole → i < length whole
     → reveal_of (pair_at (first 0) (second 0) i) (pair_at (first 1) (second 1) i) (pair_at (first 2) (second 2) i) ≡ slice_index whole i
+
+-- a part of shares is shares of the part
+abbrev pub PartsShare : Type 0
+PartsShare = (first second : ℕ → List ℕ) (whole : List ℕ) (start n : ℕ) → AreShares first second whole
+    → AreShares (λ k. take n (drop start (first k))) (λ k. take n (drop start (second k))) (take n (drop start whole))
+
+-- shares of two lists, one after the other, are shares of the lists one after the other
+abbrev pub AppendedShare : Type 0
+AppendedShare = (first second first' second' : ℕ → List ℕ) (whole whole' : List ℕ) → AreShares first second whole → AreShares first' second' whole'
+    → AreShares (λ k. first k ++ first' k) (λ k. second k ++ second' k) (whole ++ whole')
 
 -- the sums of pairs reveal the sum
 abbrev pub AddedReveals : Type 0

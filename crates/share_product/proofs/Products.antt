@@ -1,0 +1,57 @@
+-- What the parts of three servers add up to.
+use Rattle.std.proofs.Common.{◌≡◌, ℕ, ◌+◌, List, ◌++◌, length, get_or, take, drop, refl, sym, ap, ◌∙◌, arith}
+use Rattle.std.proofs.Math.Seq.{take-append_seam}
+use Rattle.list_facts.proofs.Listed.{length-listed, get_or-listed}
+use Rattle.prg_chacha.specs.declared.seed.Seed.{Seed}
+use Rattle.prg_chacha.specs.Prg.{pad_of}
+use Rattle.ring128.specs.Ring.{plus, minus, times, sums, sums3}
+use Rattle.ring128.proofs.Laws.{inward, sums-listed, length-sums3, get_or-sums3, listed_add_up, dot_of-sums3, dot_of-sums3_right}
+use Rattle.zero_share.specs.Zero.{parts_of}
+use Rattle.share_product.specs.Product.{local_of, locals_of, local_rows_of}
+use Rattle.share_product.specs.Laws.{LocalsAddUp, RowsAddUp, InnersAddUp, ReshareShares}
+
+pub locals_add_up : LocalsAddUp
+locals_add_up a b c d e f = simp inward (omega arith)
+
+-- the parts of one product, each with a part of zero
+product_adds_up : (a b c d e f p q r : ℕ)
+    → plus (plus (plus (local_of a b d e) (minus p q)) (plus (local_of b c e f) (minus q r))) (plus (local_of c a f d) (minus r p))
+    ≡ times (plus (plus a b) c) (plus (plus d e) f)
+product_adds_up a b c d e f p q r = simp inward (omega arith)
+
+pub rows_add_up : RowsAddUp
+rows_add_up n start a b c d e f s t u x y =
+    rw (x.first, x.second, x.third)
+    (listed_add_up n _ _ _ _ (length-listed n _)
+    (λ i h.
+    simp (get_or-listed, h, get_or-sums3 n i a b c x h, get_or-sums3 n i d e f y h)
+    (product_adds_up (get_or a i 0) (get_or b i 0) (get_or c i 0) (get_or d i 0) (get_or e i 0) (get_or f i 0)
+    (pad_of s (start + i)) (pad_of t (start + i)) (pad_of u (start + i)))))
+
+pub inners_add_up : InnersAddUp
+inners_add_up n a b c d e f x y =
+    omega (arith, dot_of-sums3 n a b c (sums3 d e f) x, dot_of-sums3_right n a d e f y, dot_of-sums3_right n b d e f y, dot_of-sums3_right n c d e f y)
+
+pub reshare_shares : ReshareShares
+reshare_shares part n three =
+    let long = length-sums3 n (part 0) (part 1) (part 2) three in
+    record {
+      next = λ k h. refl;
+      long = record { first = omega arith; second = omega arith; third = omega arith };
+      adds_up = refl;
+    }
+
+-- the parts, then the parts of zero
+rows_with_zero : (a a' b b' : List ℕ) (own next : Seed) (start n : ℕ) → n ≡ length a
+    → sums (locals_of a a' b b') (parts_of own next start n) ≡ local_rows_of a a' b b' own next start
+rows_with_zero a a' b b' own next start n e = rw e (sums-listed (length a) _ _)
+
+-- the same, where the parts of zero are added to a vector of so many rows in place
+pub rows_in_place : (a a' b b' : List ℕ) (own next : Seed) (start len : ℕ) (rows lent words : List ℕ)
+    → rows ≡ locals_of a a' b b' → len ≡ length rows → lent ≡ rows → words ≡ sums lent (parts_of own next start (length lent))
+    → take len (words ++ drop (length words) rows) ≡ local_rows_of a a' b b' own next start
+rows_in_place a a' b b' own next start len rows lent words made size same added =
+    let long : length rows ≡ length a = ap length made ∙ length-listed (length a) _ in
+    let whole : words ≡ local_rows_of a a' b b' own next start = added ∙ rw (same, long, made) (rows_with_zero a a' b b' own next start (length a) refl) in
+    let seam : len ≡ length words = size ∙ (long ∙ sym (ap length whole ∙ length-listed (length a) _)) in
+    rw seam (take-append_seam words _ ∙ whole)
