@@ -1,11 +1,11 @@
 -- How often an element stands in a list, and sums over lists.
-use Rattle.std.proofs.Common.{◌≡◌, ℕ, zero, suc, ◌+◌, ◌<◌, ◌≤◌, List, [], ◌∷◌, ◌++◌, length, set, sym, ap, ◌∙◌, arith}
+use Rattle.std.proofs.Common.{◌≡◌, ℕ, zero, suc, ◌+◌, ◌<◌, ◌≤◌, true, false, List, [], ◌∷◌, ◌++◌, length, set, sym, ap, ◌∙◌, arith}
 use Rattle.std.proofs.lemmas.Bool.Decides.{nat_tests}
 use mathlib.Core.Option.{some, some-injective, some-ne-none}
 use mathlib.Core.Logic.{dite}
 use native.Mathlib.Decide.{ℕ_discrete}
 use lib.ListN.{get_elem?}
-use Rattle.list_facts.specs.Count.{total, times, once_below}
+use Rattle.list_facts.specs.Count.{total, times, once_below, has}
 
 module _ {A : Type 0} (f : A → ℕ) where
   pub total-append : (xs ys : List A) → total f (xs ++ ys) ≡ total f xs + total f ys
@@ -69,6 +69,14 @@ counted (y ∷ ys) n once =
     let here : once_below y n ≡ 1 = once_at y n (times y ys) (let o = once y in omega arith) in
     let e = sum_below-cons y ys n in omega arith
 
+sum_below_counts : (xs : List ℕ) (n : ℕ) → sum_below (λ x. times x xs) n ≤ length xs
+sum_below_counts [] n = let e = sum_below_none n in omega arith
+sum_below_counts (y ∷ ys) n = let r = sum_below_counts ys n in let e = sum_below-cons y ys n in let m = once_below_most y n in omega arith
+
+sum_below_least : (g : ℕ → ℕ) (n : ℕ) → ((x : ℕ) → x < n → 0 < g x) → n ≤ sum_below g n
+sum_below_least g zero each = omega arith
+sum_below_least g (suc n) each = let r = sum_below_least g n (λ x lt. each x (omega arith)) in let h = each n (omega arith) in omega arith
+
 sum_below_most : (g : ℕ → ℕ) (n : ℕ) → ((x : ℕ) → g x ≤ 1) → sum_below g n ≤ n
 sum_below_most g zero most = omega arith
 sum_below_most g (suc n) most = let r = sum_below_most g n most in let h = most n in omega arith
@@ -91,3 +99,21 @@ pub times-once : (xs : List ℕ) (n : ℕ) → ((x : ℕ) → times x xs ≤ onc
 times-once xs n once all x lt =
     let e = counted xs n once in
     sum_below_full (λ y. times y xs) n (λ y. let o = once y in let b = once_below_most y n in omega arith) (omega arith) x lt
+
+-- a list in which each number below n stands has at least n entries
+pub length_all : (xs : List ℕ) (n : ℕ) → ((x : ℕ) → x < n → 0 < times x xs) → n ≤ length xs
+length_all xs n all =
+    let l = sum_below_least (λ x. times x xs) n all in
+    let c = sum_below_counts xs n in omega arith
+
+pub has_yes : (x : ℕ) (xs : List ℕ) → has x xs ≡ true → 0 < times x xs
+has_yes x xs e = grind (arith, nat_tests)
+
+pub has_no : (x : ℕ) (xs : List ℕ) → has x xs ≡ false → times x xs ≡ 0
+has_no x xs e = grind (arith, nat_tests)
+
+pub has_from : (x : ℕ) (xs : List ℕ) → 0 < times x xs → has x xs ≡ true
+has_from x xs e = grind (arith, nat_tests)
+
+pub has_from_none : (x : ℕ) (xs : List ℕ) → times x xs ≡ 0 → has x xs ≡ false
+has_from_none x xs e = grind (arith, nat_tests)

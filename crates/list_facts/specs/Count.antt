@@ -1,5 +1,5 @@
 -- How often an element stands in a list, and sums over lists.
-use Rattle.std.specs.Prelude.{ℕ, ◌+◌, ltb, eqb, if◌then◌else◌, List, [], ◌∷◌, length}
+use Rattle.std.specs.Prelude.{ℕ, ◌+◌, ltb, eqb, if◌then◌else◌, Bool, List, [], ◌∷◌, length}
 
 -- the numbers that f gives, added up
 abbrev pub total : {A : Type 0} → (A → ℕ) → List A → ℕ
@@ -18,3 +18,7 @@ once_below x n = if ltb x n then 1 else 0
 -- the longer of two lists
 abbrev pub longer : {A : Type 0} → List A → List A → List A
 longer xs ys = if ltb (length xs) (length ys) then ys else xs
+
+-- whether x stands in the list
+abbrev pub has : ℕ → List ℕ → Bool
+has x xs = ltb 0 (times x xs)

@@ -1,5 +1,5 @@
 -- Each step keeps the rule.
-use Rattle.std.proofs.Common.{◌≡◌, ℕ, ◌+◌, ◌-◌, ◌%◌, ◌^◌, ◌<◌, ◌≤◌, ◌≢◌, List, [], ◌∷◌, ◌++◌, length, get_or, set, All, sym, refl, ap, ◌∙◌, subst, ⊎_elim, arith, length-append}
+use Rattle.std.proofs.Common.{◌≡◌, ℕ, ◌+◌, ◌-◌, ◌%◌, ◌^◌, ◌<◌, ◌≤◌, ◌≢◌, List, [], ◌∷◌, ◌++◌, length, get_or, set, sym, refl, ap, ◌∙◌, subst, ⊎_elim, arith, length-append}
 use Rattle.std.proofs.lemmas.Bool.Decides.{nat_tests}
 use Rattle.std.proofs.lemmas.List.Elements.{All-nil, All-cons, All-set, All-push, All-weaker}
 use mathlib.Core.Option.{none, some}
@@ -10,7 +10,7 @@ use Rattle.atomic_table.proofs.Lists.{at_set, set_else}
 use Rattle.list_facts.specs.Count.{total, times, once_below, longer}
 use Rattle.list_facts.proofs.Count.{total-append, total-set, total_has, times-append, once_below-more, once_below_rises, once_below_most, once_below_both}
 use Rattle.list_facts.proofs.Each.{All-at}
-use Rattle.list_facts.proofs.Prefixes.{prefix_nil, prefix_self, prefix_more, prefix_trans, prefix_length, longer_left, longer_right, longer_prefix, longer_begins}
+use Rattle.list_facts.proofs.Prefixes.{prefix_nil, prefix_self, prefix_trans, prefix_length, longer_left, longer_right, longer_prefix, longer_begins}
 use Rattle.ticket_place.specs.declared.entry.Entry.{Entry}
 use Rattle.ticket_place.specs.declared.known.Known.{Known}
 use Rattle.ticket_place.specs.Orders.{Fits, Ordered, SoundSeat, fresh}
