@@ -4,7 +4,11 @@ use Rattle.std.proofs.lemmas.List.{drop-take, length-take, length-drop, take_all
 use Rattle.std.proofs.lemmas.Nat.{mul-le}
 use Rattle.std.proofs.lemmas.Bool.{cases_order}
 use Rattle.std.proofs.Math.Seq.{drop-nil, take-add}
+use Rattle.list_facts.specs.Listed.{listed}
+use Rattle.list_facts.proofs.Listed.{listed_same, listed-append}
+use Rattle.ring128.specs.Ring.{plus, dot_of}
 use Rattle.scan_chunks.specs.Pieces.{row_of, chunk_of, chunks_of}
+use Rattle.scan_chunks.specs.Scan.{row_number}
 
 drop_drop : (m n : ℕ) (xs : List ℕ) → drop n (drop m xs) ≡ drop (m + n) xs
 drop_drop zero n xs = let e : 0 + n ≡ n = omega arith in rw e refl
@@ -72,3 +76,16 @@ all_chunks w rows xs e =
     let many : rows ≤ 64 * chunks_of rows = omega arith in
     let enough : rows * w ≤ 64 * chunks_of rows * w = mul-le rows w (64 * chunks_of rows) w many (omega arith) in
     take_all (64 * w * chunks_of rows) xs (omega (arith, enough, e))
+
+-- the numbers of the chunks so far and of one more
+pub scanned_more : (t0 t1 : List ℕ) (w c rows : ℕ) (first second : List ℕ) → c < chunks_of rows
+    → listed (min (64 * c) rows) (row_number t0 t1 w first second) ++ listed (rows_in rows c) (row_number t0 t1 w (chunk_of w c first) (chunk_of w c second))
+    ≡ listed (min (64 * (c + 1)) rows) (row_number t0 t1 w first second)
+scanned_more t0 t1 w c rows first second h =
+    let so_far : min (64 * c) rows ≡ 64 * c = omega arith in
+    let next : min (64 * (c + 1)) rows ≡ 64 * c + rows_in rows c = omega arith in
+    rw (so_far, next, listed-append (64 * c) (rows_in rows c) (row_number t0 t1 w first second))
+    (ap (λ (l : List ℕ). listed (64 * c) (row_number t0 t1 w first second) ++ l)
+    (listed_same (rows_in rows c) _ _ (λ i lt. let few : i < 64 = omega arith in
+    ap (λ (xs : List ℕ). plus (dot_of t0 xs) (dot_of t1 (row_of w i (chunk_of w c second)))) (row_in_chunk w c i first few)
+    ∙ ap (λ (xs : List ℕ). plus (dot_of t0 (row_of w (64 * c + i) first)) (dot_of t1 xs)) (row_in_chunk w c i second few))))

@@ -7,10 +7,13 @@ use Rattle.scan_chunks.specs.Pieces.{row_of, chunks_of}
 use Rattle.scan_chunks.specs.Shelf.{Held}
 use Rattle.scan_chunks.specs.declared.visit.Visit.{Visit}
 
--- per row: the dot product of its firsts with one table, and that of its seconds with the other
+-- the number of row i: the dot product of its firsts with one table, and that of its seconds with the other
+abbrev pub row_number : List ℕ → List ℕ → ℕ → List ℕ → List ℕ → ℕ → ℕ
+row_number zero one width first second i = plus (dot_of zero (row_of width i first)) (dot_of one (row_of width i second))
+
+-- the numbers of all rows of a column
 abbrev pub scan_of : Held → ℕ → List ℕ → List ℕ → List ℕ
-scan_of h column zero one = listed h.rows (λ i.
-    plus (dot_of zero (row_of (h.width column) i (h.pieces.first column))) (dot_of one (row_of (h.width column) i (h.pieces.second column))))
+scan_of h column zero one = listed h.rows (row_number zero one (h.width column) (h.pieces.first column) (h.pieces.second column))
 
 -- each chunk of a column once, rising
 abbrev pub visits_of : Held → ℕ → List Visit

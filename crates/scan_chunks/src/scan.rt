@@ -1,8 +1,7 @@
 ghost use Rattle.std.specs.Prelude.{◌≡◌, ◌≤◌, ◌<◌, ◌+◌, ◌*◌, ◌++◌, length, vec_len, vec_capacity, IfOk, OnOk, OnErr};
 ghost use Rattle.list_facts.specs.Listed.{listed};
-ghost use Rattle.ring128.specs.Ring.{plus, dot_of};
 ghost use Rattle.scan_chunks.specs.Pieces.{row_of};
-ghost use Rattle.scan_chunks.specs.Scan.{scan_of, visits_of, VisitsPart};
+ghost use Rattle.scan_chunks.specs.Scan.{row_number, scan_of, visits_of, VisitsPart};
 
 use crate::shelf::{Lent, Shelf};
 use crate::tables::Tables;
@@ -45,8 +44,8 @@ fn scan_chunk(numbers: &mut Vec<u128>, lent: &Lent, count: usize, width: usize, 
     requires first { length lent.now.first.now ≡ count * width }
     requires second { length lent.now.second.now ≡ count * width }
     requires room { vec_len numbers.old + count ≤ vec_capacity numbers.old }
-    ensures numbers { numbers.new.items ≡ numbers.old.items ++ listed count (λ i.
-        plus (dot_of tables.now.zero (row_of width i lent.now.first.now)) (dot_of tables.now.one (row_of width i lent.now.second.now))) }
+    ensures numbers { numbers.new.items ≡ numbers.old.items ++ listed count (row_number tables.now.zero tables.now.one width lent.now.first.now lent.now.second.now) }
+    ensures length { vec_len numbers.new ≡ vec_len numbers.old + count }
     ensures room { vec_capacity numbers.new ≡ vec_capacity numbers.old }
 {
     let zero = tables.zero.as_slice();
