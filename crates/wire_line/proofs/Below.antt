@@ -1,6 +1,6 @@
 -- What went through the wire below one that shifts.
 use Rattle.std.proofs.Common.{◌≡◌, ℕ, ◌+◌, List, [], ◌∷◌, length, Option, Result, Ok, Err, OnOk, ap, ◌∙◌, arith}
-use Rattle.ring128.specs.declared.words.Memory.{Memory}
+use Rattle.ring128.specs.declared.memory.Memory.{Memory}
 use Rattle.wire_line.specs.declared.lent.LentWire.{LentWire}
 use Rattle.wire_line.specs.declared.message.Message.{Message}
 use Rattle.wire_line.specs.declared.message.Peer.{Peer}

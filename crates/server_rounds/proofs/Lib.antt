@@ -1,0 +1,3 @@
+pub mod Extend
+pub mod Runs
+pub mod Both
