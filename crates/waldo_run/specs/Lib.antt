@@ -1,9 +1,4 @@
-pub mod Columns
-pub mod Numbers
-pub mod Ports
-pub mod Reading
+pub mod Counting
 pub mod Replies
-pub mod Report
-pub mod Rows
 pub mod Run
 pub mod Words

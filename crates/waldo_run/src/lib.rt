@@ -1,13 +1,21 @@
-//! Counts over rows, from bytes in to bytes out.
+//! The top call: command words and bytes in, one text and a status out.
+//!
+//! [`run_still`] reads the words, then the input, answers the query and puts the whole report in one piece. Its contract is
+//! the program's: the report is a function of words and bytes, and every other status has its cause. It never puts a
+//! part of a report by itself, and reads nothing where the words are refused.
+//!
+//! ```text
+//! let mut source = MemorySource::new(alloc, b"host,value\n3,10\n", &[])?;
+//! let mut sink = MemorySink::new(alloc, 100, &[])?;
+//! let status = run_still(alloc, &words, &mut source, &mut sink); // ask host:2 --query "count host=3"
+//! // status is 0, and the sink has "ask 0 rows 1 count 1\n"
+//! ```
 #![tactic(auto)]
 
-pub mod number;
-pub mod read_all;
-pub mod reply;
-pub mod report;
-pub mod rows;
-pub mod run;
-pub mod schema;
-pub mod sink;
-pub mod source;
-pub mod words;
+mod counting;
+mod reply;
+mod run;
+mod words;
+
+pub use run::run_still;
+pub use words::{Ask, Command, WordFault, read_words};

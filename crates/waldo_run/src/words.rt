@@ -1,55 +1,29 @@
 //! Command words.
-ghost use Rattle.std.specs.Prelude.{◌≡◌, Some, Ok, Err, map, string_bytes, codes};
-ghost use Rattle.waldo_run.specs.Words.{query_of, command_of, after_command, after_schema, after_option, Says};
+ghost use Rattle.std.specs.Prelude.{◌≡◌, Ok, Err, IfOk, map, string_bytes, codes};
+ghost use Rattle.text_reading.specs.Reading.{Gives};
+ghost use Rattle.waldo_run.specs.Words.{command_of, after_command, with_schema, after_option, after_query, Suited};
 ghost use Rattle.waldo_run.specs.declared.words.WordFault.TheVariants.{Memory, Missing};
 
-use crate::number::{cut, number};
-use crate::schema::{Schema, read_schema};
-use std::alloc::{AllocError, Global};
-use std::marker::Model;
+use query_plan::{Query, read_query};
+use report_lines::NameText;
+use std::alloc::Global;
+use table_schema::{Schema, SchemaFault, read_schema};
 
-/// The name of a word that is missing.
-#[derive(Drop)]
-pub struct NameText {
-    text: &'static str,
-}
-
-impl Model for NameText {
-    ghost use Rattle.std.specs.Prelude.{List, ℕ};
-
-    ghost Value = { List ℕ };
-
-    ghost view = { λ n. n.text.now };
-}
-
-impl NameText {
-    fn new(text: &'static str) -> NameText
-        ensures { result ≡ text.now }
-    {
-        NameText { text }
-    }
-
-    /// The text.
-    pub fn as_str(&self) -> &'static str
-        ensures { result.now ≡ self.now }
-    {
-        self.text
-    }
-}
-
-/// A count of the rows in a bucket.
+/// A query over a table with these columns.
 #[derive(Drop)]
 pub struct Ask {
     pub schema: Schema,
-    pub bucket: u8,
+    pub query: Query,
 }
 
+/// What the program is asked to do.
 #[derive(Drop)]
 pub enum Command {
     Ask(Ask),
 }
 
-/// Why the words were refused.
+/// Why the words are refused: the first word, from 0, that is bad, or the name of what is missing behind good ones; or want
+/// of memory.
 #[derive(Drop)]
 pub enum WordFault {
     Word { index: u64 },
@@ -67,33 +41,11 @@ impl WordFault {
     }
 }
 
-impl From<AllocError> for WordFault {
-    ghost from_gives = { λ _ e. e ≡ Memory };
-
-    fn from(_error: AllocError) -> WordFault {
-        WordFault::Memory
-    }
-}
-
-/// The number that a count asks for, where the word is a query.
-#[tactic(auto, unfolding(crate::specs::Words::query_of))]
-fn query(schema: &Schema, word: &[u8]) -> Option<u8>
-    ensures { result ≡ query_of schema.now word.now }
-{
-    let (verb, rest) = cut(word, b' ')?;
-    let (name, digits) = cut(rest, b'=')?;
-    let number = number(digits)?;
-    if verb == b"count".as_slice() && name == schema.name() && number < schema.buckets() {
-        Some(number as u8)
-    } else {
-        None
-    }
-}
-
-/// The command that the words say, or the first bad word, or what is missing.
+/// The command that the words say: `ask`, a schema's text, `--query` and a query's text, or the first fault from the left.
 #[tactic(auto, unfolding(crate::specs::Words::command_of))]
 pub fn read_words(alloc: Global, words: &[String]) -> Result<Command, WordFault>
-    ensures { Says Memory (λ command. command) result (command_of (map string_bytes words.now)) }
+    ensures exact { Gives Memory (λ command. command) result (command_of (map string_bytes words.now)) }
+    ensures suited { IfOk result Suited }
 {
     match words {
         [] => Err(WordFault::missing("command")),
@@ -107,20 +59,25 @@ pub fn read_words(alloc: Global, words: &[String]) -> Result<Command, WordFault>
     }
 }
 
+// The words behind `ask`.
 fn ask_words(alloc: Global, words: &[String]) -> Result<Command, WordFault>
-    ensures { Says Memory (λ command. command) result (after_command (map string_bytes words.now)) }
+    ensures exact { Gives Memory (λ command. command) result (after_command (map string_bytes words.now)) }
+    ensures suited { IfOk result Suited }
 {
     match words {
         [] => Err(WordFault::missing("schema")),
-        [word, rest @ ..] => match read_schema(alloc, word.as_bytes())? {
-            None => Err(WordFault::Word { index: 1 }),
-            Some(schema) => options(schema, rest),
+        [word, rest @ ..] => match read_schema(alloc, word.as_str()) {
+            Ok(schema) => options(schema, rest),
+            Err(SchemaFault::Memory) => Err(WordFault::Memory),
+            Err(_) => Err(WordFault::Word { index: 1 }),
         },
     }
 }
 
+// The words behind the schema.
 fn options(schema: Schema, words: &[String]) -> Result<Command, WordFault>
-    ensures { Says Memory (λ command. command) result (after_schema (map string_bytes words.now) (Some schema)) }
+    ensures exact { Gives Memory (λ command. command) result (with_schema (map string_bytes words.now) (Ok schema)) }
+    ensures suited { IfOk result Suited }
 {
     match words {
         [] => Err(WordFault::missing("--query")),
@@ -134,20 +91,29 @@ fn options(schema: Schema, words: &[String]) -> Result<Command, WordFault>
     }
 }
 
+// The words behind `--query`.
 fn option_value(schema: Schema, words: &[String]) -> Result<Command, WordFault>
-    ensures { Says Memory (λ command. command) result (after_option schema (map string_bytes words.now)) }
+    ensures exact { Gives Memory (λ command. command) result (after_option schema (map string_bytes words.now)) }
+    ensures suited { IfOk result Suited }
 {
     match words {
         [] => Err(WordFault::Word { index: 2 }),
-        [word, rest @ ..] => match query(&schema, word.as_bytes()) {
-            None => Err(WordFault::Word { index: 3 }),
-            Some(bucket) => {
-                if rest.is_empty() {
-                    Ok(Command::Ask(Ask { schema, bucket }))
-                } else {
-                    Err(WordFault::Word { index: 4 })
-                }
-            }
+        [word, rest @ ..] => match read_query(&schema, word.as_str()) {
+            Ok(query) => last_words(Ask { schema, query }, rest),
+            Err(_) => Err(WordFault::Word { index: 3 }),
         },
+    }
+}
+
+// The words behind the query, of which there must be none.
+fn last_words(ask: Ask, words: &[String]) -> Result<Command, WordFault>
+    requires { Suited (commands.Ask ask) }
+    ensures exact { Gives Memory (λ command. command) result (after_query ask (map string_bytes words.now)) }
+    ensures suited { IfOk result Suited }
+{
+    if words.is_empty() {
+        Ok(Command::Ask(ask))
+    } else {
+        Err(WordFault::Word { index: 4 })
     }
 }
