@@ -1,7 +1,7 @@
 -- What the two parties draw at leaves whose bits are apart.
 use Rattle.std.proofs.Common.{◌≡◌, ℕ, ◌%◌, ◌^◌, Bool, true, false, not, cond, arith}
 use Rattle.prg_chacha.specs.Prg.{convert_of}
-use Rattle.ring128.specs.Ring.{plus, minus, negative}
+use Rattle.ring128.specs.Ring.{plus, minus}
 use Rattle.key_tree.specs.declared.node.Node.{Node}
 use Rattle.key_tree.specs.Tree.{signed, leaf_number, last_for}
 

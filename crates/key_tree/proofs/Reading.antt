@@ -1,5 +1,5 @@
 -- Keys written as words and read back.
-use Rattle.std.proofs.Common.{◌≡◌, ℕ, zero, suc, ◌+◌, ◌-◌, ◌*◌, ◌<◌, ◌≤◌, List, [], ◌∷◌, ◌++◌, length, get_or, take, drop, All, refl, sym, ap, subst, ◌∙◌, arith, append_assoc, length-append}
+use Rattle.std.proofs.Common.{◌≡◌, ℕ, suc, ◌+◌, ◌-◌, ◌*◌, ◌<◌, ◌≤◌, List, [], ◌∷◌, ◌++◌, length, get_or, take, drop, All, refl, sym, ap, subst, ◌∙◌, arith, append_assoc, length-append}
 use Rattle.std.specs.List.{flat_map}
 use Rattle.std.proofs.Math.Seq.{take-add, take-append_seam, drop-append-add, get_or-append_seam}
 use Rattle.std.proofs.lemmas.List.{flat_map_more, take_more, take_all, drop_more, drop_all, drop-drop, take-append-drop}
@@ -99,6 +99,7 @@ levels_back f read w (l ∷ ls) tail long all =
         ap (λ m. read (take w (drop m (f l ++ (flat_map f ls ++ tail))))) e
         ∙ ap (λ m. read (take m (f l ++ (flat_map f ls ++ tail)))) (sym (long l))
         ∙ ap read (take-append_seam (f l) (flat_map f ls ++ tail))
+
     next : (i n : ℕ) → n ≡ length (f l) + w * i → drop n (f l ++ (flat_map f ls ++ tail)) ≡ drop (w * i) (flat_map f ls ++ tail)
     next i n e = ap (λ m. drop m (f l ++ (flat_map f ls ++ tail))) e ∙ drop-append-add (f l) (flat_map f ls ++ tail) (w * i)
 

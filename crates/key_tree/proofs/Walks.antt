@@ -1,6 +1,6 @@
 -- Walks from a place down to a leaf.
-use Rattle.std.proofs.Common.{◌≡◌, ℕ, zero, suc, ◌+◌, ◌*◌, ◌/◌, ◌%◌, ◌^◌, ◌<◌, ◌==◌, cond, List, [], ◌∷◌, ◌++◌, length, set, refl, sym, ap, ◌∙◌, arith}
-use Rattle.std.proofs.lemmas.Nat.{mod-pow-add, mod_below, pow_pos, same_from_place, div-mul-add, mod-mul-add, div_below}
+use Rattle.std.proofs.Common.{◌≡◌, ℕ, suc, ◌+◌, ◌*◌, ◌/◌, ◌%◌, ◌^◌, ◌<◌, List, [], ◌∷◌, ◌++◌, length, set, refl, sym, ap, ◌∙◌, arith}
+use Rattle.std.proofs.lemmas.Nat.{mod-pow-add, mod_below, pow_pos, same_from_place, div-mul-add, mod-mul-add}
 use native.Mathlib.Nat.{pow-suc}
 use Rattle.list_facts.specs.Listed.{listed}
 use Rattle.list_facts.proofs.Listed.{listed-append, listed_same}
@@ -24,7 +24,7 @@ descend_low below [] x y p e = refl
 descend_low below (l ∷ ls) x y p e =
     let k = length ls in
     let parts = same_from_place (x / 2 ^ k % 2) (x % 2 ^ k) (y / 2 ^ k % 2) (y % 2 ^ k) (2 ^ k) (mod_below x (2 ^ k) (pow_pos k)) (mod_below y (2 ^ k) (pow_pos k))
-        (sym (low_bits x k) ∙ e ∙ low_bits y k) in
+    (sym (low_bits x k) ∙ e ∙ low_bits y k) in
     descend_turn below l ls k x (side_at y k) p refl (ap side_of parts.0)
     ∙ descend_low below ls x y (below l (side_at y k) p) parts.1
 

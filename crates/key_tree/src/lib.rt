@@ -35,4 +35,4 @@ pub use leaf::{last_word, of_party, signed};
 pub use level::Level;
 pub use node::Node;
 pub use side::side_of;
-pub use tree_key::{TreeKey, table, value};
+pub use tree_key::{TreeKey, pair, table, value};

@@ -50,6 +50,25 @@ impl<L> TreeKey<L> {
     }
 }
 
+/// The keys of party 0 and party 1 with these roots, and the same levels and last word.
+pub fn pair<L: KeyLevel + Drop>(
+    alloc: Global,
+    root0: &Seed,
+    root1: &Seed,
+    levels: Vec<L>,
+    last: u128,
+) -> Result<(TreeKey<L>, TreeKey<L>), Memory>
+    requires { length levels.items ≤ 8 }
+    ensures zero { IfOk result (λ p. p.0 ≡ record { root = root0.now; levels = levels.items; last = last }) }
+    ensures one { IfOk result (λ p. p.1 ≡ record { root = root1.now; levels = levels.items; last = last }) }
+{
+    let copy = Vec::from_slice(alloc, levels.as_slice())?;
+    Ok((
+        TreeKey::new(*root0, levels, last),
+        TreeKey::new(*root1, copy, last),
+    ))
+}
+
 /// The value of a party's key at `x`: below the last level the number of the leaf that `x` leads to, for
 /// party 1 its negative.
 pub fn value<L: KeyLevel>(key: &TreeKey<L>, party: Party, x: u8) -> u128

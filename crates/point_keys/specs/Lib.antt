@@ -1,1 +1,2 @@
+pub mod PointWords
 pub mod Points

@@ -5,21 +5,16 @@ use Rattle.ring128.specs.declared.party.Party.{Party}
 use Rattle.ring128.specs.declared.party.Party.TheVariants.{Zero, One}
 use Rattle.key_tree.specs.declared.node.Node.{Node}
 use Rattle.key_tree.specs.declared.level.Level.{Level}
-use Rattle.key_tree.specs.Tree.{side_at, step, level_between, descend, start, root_for, of_party, leaf_number, last_for}
+use Rattle.key_tree.specs.Keys.{Key, value_under}
+use Rattle.key_tree.specs.Tree.{side_at, step, level_between, start, root_for, leaf_number, last_for}
 
 -- the weight at a, and 0 elsewhere
 abbrev pub point_at : ℕ → ℕ → ℕ → ℕ
 point_at a weight x = cond (x == a) weight 0
 
--- a key: its root, its levels from the highest bit down, and its last word
-pub record Key : Type 0 where
-  pub root : Seed
-  pub levels : List Level
-  pub last : ℕ
-
 -- the value of a party at a number
-abbrev pub value_of : Key → Party → ℕ → ℕ
-value_of k party x = of_party party (leaf_number k.last (descend step k.levels x (start party k.root)))
+abbrev pub value_of : Key Level → Party → ℕ → ℕ
+value_of = value_under start step leaf_number
 
 -- the levels below the nodes of two parties for a number of this many bits
 abbrev pub levels_of : ℕ → ℕ → Node → Node → List Level
@@ -36,7 +31,7 @@ last_of weight (suc k) a n m =
     last_of weight k a (step l (side_at a k) n) (step l (side_at a k) m)
 
 -- the key of a party for a weight at a, from the roots of both
-abbrev pub point_key : Party → ℕ → ℕ → ℕ → Seed → Seed → Key
+abbrev pub point_key : Party → ℕ → ℕ → ℕ → Seed → Seed → Key Level
 point_key party bits a weight r s = record {
   root = root_for party r s;
   levels = levels_of bits a (start Zero r) (start One s);

@@ -1,46 +1,15 @@
 ghost use Rattle.std.specs.Prelude.{◌≡◌, ◌<◌, ◌≤◌, ◌^◌, IfOk, length};
+ghost use Rattle.list_facts.specs.Listed.{listed};
 ghost use Rattle.ring128.specs.Laws.{IsKeyPair};
-ghost use Rattle.key_tree.specs.Tree.{descend, step};
 ghost use Rattle.point_keys.specs.Points.{value_of, point_key, point_at};
 
-use key_tree::{Level, Node, last_word, of_party, side_of};
+use key_tree::{Level, Node, TreeKey, last_word, pair, side_of};
 use prg_chacha::Seed;
-use ring128::{Memory, Party};
+use ring128::{Memory, Party, Words};
 use std::alloc::Global;
-use std::marker::Model;
 
-/// The key of one party for a point function: a root, a correction for each bit, the highest first, and
-/// a last word.
-#[derive(Drop)]
-pub struct PointKey {
-    pub(crate) root: Seed,
-    pub(crate) levels: Vec<Level>,
-    pub(crate) last: u128,
-}
-
-impl Model for PointKey {
-    ghost use Rattle.std.specs.Prelude.{length, ◌≤◌};
-    ghost use Rattle.point_keys.specs.Points.{Key};
-
-    ghost Value = { Key };
-
-    ghost view = { λ a. record {
-      root = a.root;
-      levels = a.levels.items;
-      last = a.last;
-    } };
-
-    ghost invariant = { λ a. length a.levels.items ≤ 8 };
-}
-
-impl PointKey {
-    /// The number of bits of the numbers that the key has values at.
-    pub fn bits(&self) -> usize
-        ensures { result ≡ length self.now.levels }
-    {
-        self.levels.len()
-    }
-}
+/// The key of one party for a point function.
+pub type PointKey = TreeKey<Level>;
 
 /// Makes the keys of party 0 and party 1 for a weight at `a`, from the roots of the two parties. Their
 /// values add up to the weight at `a` and to 0 at every other number below 2^bits, whatever the roots
@@ -70,18 +39,8 @@ pub fn generate(
         levels.push(level)?;
     }
     let last = last_word(weight, 0, &zero, &one);
-    let copy = Vec::from_slice(alloc, levels.as_slice())?;
-    let first = PointKey {
-        root: *root0,
-        levels,
-        last,
-    };
-    let second = PointKey {
-        root: *root1,
-        levels: copy,
-        last,
-    };
-    Ok((first, second))
+    let keys = pair(alloc, root0, root1, levels, last)?;
+    Ok(keys)
 }
 
 /// The value of a party's key at `x`.
@@ -89,19 +48,12 @@ pub fn value(key: &PointKey, party: Party, x: u8) -> u128
     requires { x < 2 ^ length key.now.levels }
     ensures { result ≡ value_of key.now party x }
 {
-    let leaf = leaf(key.levels.as_slice(), x, Node::start(party, &key.root));
-    of_party(party, leaf.number(key.last))
+    key_tree::value(key, party, x)
 }
 
-// The leaf that a number leads to from a node.
-fn leaf(levels: &[Level], x: u8, top: Node) -> Node
-    requires { length levels.now ≤ 8 }
-    ensures { result ≡ descend step levels.now x top }
+/// The values of a party's key at 0, 1 and so on to 2^bits - 1, by one walk over its tree.
+pub fn table(alloc: Global, key: &PointKey, party: Party) -> Result<Words, Memory>
+    ensures { IfOk result (λ w. w ≡ listed (2 ^ length key.now.levels) (value_of key.now party)) }
 {
-    let mut node = top;
-    for (i, level) in levels.iter().enumerate() {
-        let side = side_of(x, levels.len() - 1 - i);
-        node = node.step(level, side);
-    }
-    node
+    key_tree::table(alloc, key, party)
 }

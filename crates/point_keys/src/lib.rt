@@ -17,8 +17,11 @@
 #![tactic(auto)]
 
 mod key;
+mod words;
 
-pub use key::{PointKey, generate, value};
+pub use key::{PointKey, generate, table, value};
+pub use key_tree::KeyFault;
+pub use words::{from_words, length, to_words};
 
 #[cfg(test)]
 mod tests;

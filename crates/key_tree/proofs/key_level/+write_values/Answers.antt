@@ -1,4 +1,4 @@
-use Rattle.std.proofs.Common.{◌≡◌, ◌∙◌, ap, length}
+use Rattle.std.proofs.Common.{◌∙◌, ap}
 use Rattle.key_tree.specs.Tree.{of_party}
 use Rattle.key_tree.proofs.Walks.{values_none, values_some}
 use Rattle.key_tree.proofs.key_level.+write_values.Goals as goal

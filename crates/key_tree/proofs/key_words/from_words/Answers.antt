@@ -1,6 +1,6 @@
 use Rattle.std.proofs.Common.{◌≡◌, ◌≤◌, ℕ, ◌+◌, ◌-◌, ◌*◌, length, get_or, take, drop, ap, subst, ◌∙◌, arith, below_more}
 use Rattle.std.specs.List.{flat_map}
-use Rattle.key_tree.specs.KeyWords.{control_at, words_at}
+use Rattle.key_tree.specs.KeyWords.{control_at}
 use Rattle.key_tree.proofs.Reading.{part_at, read_more, length-levels_read, words_more, words_whole}
 use Rattle.key_tree.proofs.key_words.from_words.Goals as goal
 

@@ -1,4 +1,4 @@
-use Rattle.std.proofs.Common.{◌≡◌, ◌<◌, ◌≤◌, ◌*◌, ℕ, length, take, drop}
+use Rattle.std.proofs.Common.{◌≡◌, ◌<◌, ◌≤◌, ◌*◌, ℕ, take, drop}
 use Rattle.std.specs.List.{flat_map}
 use Rattle.key_tree.specs.KeyWords.{levels_read, control_at}
 use Rattle.key_tree.proofs.key_words.from_words.Given as goal

@@ -1,4 +1,4 @@
-use Rattle.std.proofs.Common.{◌≡◌, ◌<◌, ◌≤◌, ◌∷◌, ◌++◌, ℕ, List, All, length, take, sym, ap, subst, ◌∙◌, arith}
+use Rattle.std.proofs.Common.{◌≡◌, ◌<◌, ◌≤◌, ◌∷◌, ◌++◌, ℕ, List, length, sym, ap, subst, ◌∙◌, arith}
 use Rattle.key_tree.specs.Keys.{Key}
 use Rattle.key_tree.specs.KeyWords.{key_words, key_read}
 use Rattle.key_tree.proofs.Reading.{written_more, all_more, written_whole, written_back}

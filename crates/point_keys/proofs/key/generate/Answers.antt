@@ -16,23 +16,16 @@ loop-place-preserved c =
           (last_of_more c.args.weight c.loop-place.place c.args.a c.loop-place.zero c.loop-place.one some ∙ c.loop-place.invariant.last);
     }
 
-pub invariant_of-first : goal.invariant_of-first
-invariant_of-first c =
+pub pair-requires : goal.pair-requires
+pair-requires c =
     let done : c.loop-place.place ≡ 0 = omega arith in
     let e = levels_of_none _ _ _ _ _ _ done c.loop-place.invariant.levels in
     omega (arith, ap length e, length-levels_of c.args.bits c.args.a (start Zero c.args.root0.now) (start One c.args.root1.now))
-
-pub invariant_of-second : goal.invariant_of-second
-invariant_of-second c =
-    let done : c.loop-place.place ≡ 0 = omega arith in
-    let e = levels_of_none _ _ _ _ _ _ done c.loop-place.invariant.levels in
-    rw (c.in_ok-copy.ensures.items, c.as_slice.ensures.value)
-    (omega (arith, ap length e, length-levels_of c.args.bits c.args.a (start Zero c.args.root0.now) (start One c.args.root1.now)))
 
 pub returns-clause-pair : goal.returns-clause-pair
 returns-clause-pair c = λ x h.
     let done : c.loop-place.place ≡ 0 = omega arith in
     let e = levels_of_none _ _ _ _ _ _ done c.loop-place.invariant.levels in
     let last = c.last_word-last.ensures ∙ last_of_none _ _ _ _ _ _ done c.loop-place.invariant.last in
-    rw (c.in_ok-copy.ensures.items, c.as_slice.ensures.value, e, last)
+    rw (c.in_ok-keys.ensures.zero, c.in_ok-keys.ensures.one, e, last)
     (point_keys_add_up c.args.bits c.args.a c.args.weight x c.args.root0.now c.args.root1.now c.requires.within h (search rules))
