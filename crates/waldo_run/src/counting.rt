@@ -41,3 +41,29 @@ fn keys_of(
     let root1 = derive(seed, 17, 0, 1);
     generate(alloc, bits, predicate.low, 1, &root0, &root1)
 }
+
+/// How many rows pass a query that is answered by now: the sum over the rows of both parties' values at the row's bucket.
+pub(crate) fn count(
+    alloc: Global,
+    query: &Query,
+    widths: &Widths,
+    seed: &Seed,
+    rows: &[Row],
+) -> Result<u64, Memory>
+    requires answered { IsTrue (is_answered query.now) }
+    requires suits { Suits widths.now.columns widths.now.bits query.now }
+    requires held { All (Holds widths.now) rows.now }
+    requires few { length rows.now ≤ 65536 }
+    ensures { IfOk result (λ n. n ≡ count_of query.now rows.now) }
+{
+    let [predicate, ..] = query.predicates;
+    let bits = widths.bits[predicate.column as usize];
+    let (zero, one) = keys_of(alloc, &predicate, bits, seed)?;
+    let mut total = 0;
+    for row in rows {
+        let bucket = row.buckets[predicate.column as usize];
+        let share = add(value(&zero, Party::Zero, bucket), value(&one, Party::One, bucket));
+        total = add(total, share);
+    }
+    Ok(total as u64)
+}

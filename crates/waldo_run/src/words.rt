@@ -2,8 +2,10 @@
 ghost use Rattle.std.specs.Prelude.{◌≡◌, Ok, Err, IfOk, map, string_bytes, codes};
 ghost use Rattle.text_reading.specs.Reading.{Gives};
 ghost use Rattle.waldo_run.specs.Words.{command_of, after_command, with_schema, after_option, after_query, Suited};
+ghost use Rattle.waldo_run.specs.declared.words.Command.TheVariants as commands;
 ghost use Rattle.waldo_run.specs.declared.words.WordFault.TheVariants.{Memory, Missing};
 
+use crate::counting::is_built;
 use query_plan::{Query, read_query};
 use report_lines::NameText;
 use std::alloc::Global;
@@ -99,7 +101,8 @@ fn option_value(schema: Schema, words: &[String]) -> Result<Command, WordFault>
     match words {
         [] => Err(WordFault::Word { index: 2 }),
         [word, rest @ ..] => match read_query(&schema, word.as_str()) {
-            Ok(query) => last_words(Ask { schema, query }, rest),
+            Ok(query) if is_built(&query) => last_words(Ask { schema, query }, rest),
+            Ok(_) => Err(WordFault::Word { index: 3 }),
             Err(_) => Err(WordFault::Word { index: 3 }),
         },
     }
