@@ -1,0 +1,3 @@
+pub mod CompareWords
+pub mod Compares
+pub mod Generated
