@@ -39,9 +39,9 @@ input_fault refused r = record { two = omega arith; three = omega arith; four = 
 
 answered_status : (ask : Ask) (rows : Result (List Row) RowFault) → OfInput (IsRefused rows) (answered ask rows).status
 answered_status ask (Ok rows) = other ⊥ 0 (omega arith) (omega arith) (omega arith) (omega arith)
-answered_status ask (Err row.Header) = input_fault _ cc
-answered_status ask (Err (row.BadRecord number why)) = input_fault _ cc
-answered_status ask (Err (row.TooMany capacity)) = input_fault _ cc
+answered_status ask (Err row.Header) = input_fault _ (λ e. cc)
+answered_status ask (Err (row.BadRecord number why)) = input_fault _ (λ e. cc)
+answered_status ask (Err (row.TooMany capacity)) = input_fault _ (λ e. cc)
 answered_status ask (Err row.Memory) = other _ 6 (omega arith) (omega arith) (omega arith) (omega arith)
 
 -- for each command: the status of its reply to an input, and of its reply without one

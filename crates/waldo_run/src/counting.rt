@@ -1,5 +1,5 @@
 //! Counts by keys: the values of both parties at each row's bucket, added up.
-ghost use Rattle.std.specs.Prelude.{◌≡◌, ◌<◌, ◌≤◌, ◌^◌, IsTrue, IfOk, length, get_or};
+ghost use Rattle.std.specs.Prelude.{◌≡◌, ◌<◌, ◌≤◌, ◌^◌, IsTrue, All, IfOk, length, get_or};
 ghost use Rattle.ring128.specs.Laws.{IsKeyPair};
 ghost use Rattle.ring128.specs.declared.party.Party.TheVariants.{Zero, One};
 ghost use Rattle.point_keys.specs.Points.{value_of, point_at};
@@ -62,7 +62,10 @@ pub(crate) fn count(
     let mut total = 0;
     for row in rows {
         let bucket = row.buckets[predicate.column as usize];
-        let share = add(value(&zero, Party::Zero, bucket), value(&one, Party::One, bucket));
+        let share = add(
+            value(&zero, Party::Zero, bucket),
+            value(&one, Party::One, bucket),
+        );
         total = add(total, share);
     }
     Ok(total as u64)

@@ -28,7 +28,11 @@ fn refused_rows(alloc: Global, fault: RowFault) -> Result<Reply, Memory>
 {
     match fault {
         RowFault::Header => single_line(alloc, 5, Line::Header),
-        RowFault::BadRecord { number, why } => single_line(alloc, 5, Line::BadRecord { number, why }),
+        RowFault::BadRecord { number, why } => single_line(
+            alloc,
+            5,
+            Line::BadRecord { number, why },
+        ),
         RowFault::TooMany { capacity } => single_line(alloc, 5, Line::TooMany { capacity }),
         RowFault::Memory => Err(Memory),
     }

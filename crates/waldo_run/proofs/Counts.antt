@@ -1,0 +1,33 @@
+-- Counts, row by row.
+use Rattle.std.proofs.Common.{◌≡◌, ◌∙◌, refl, ap, ℕ, ◌+◌, ◌%◌, ◌^◌, ◌<◌, ◌≤◌, Bool, true, false, cond, eqb, List, [], ◌∷◌, ◌++◌, length, get_or, take, arith}
+use Rattle.std.proofs.lemmas.List.{take_more, length-take}
+use Rattle.list_facts.specs.Count.{total}
+use Rattle.list_facts.proofs.Count.{total-append}
+use Rattle.ring128.specs.Ring.{plus}
+use Rattle.point_keys.specs.Points.{point_at}
+use Rattle.query_plan.specs.Query.{predicate_at}
+use Rattle.query_plan.specs.declared.query.Query.{Query}
+use Rattle.table_schema.specs.declared.rows.Row.{Row}
+use Rattle.waldo_run.specs.Counting.{counts, count_of}
+
+few : (q : Query) (row : Row) → counts q row ≤ 1
+few q row = by (eqb (get_or row.buckets (predicate_at q 0).column 0) (predicate_at q 0).low)
+  where
+    by : (b : Bool) → cond b 1 0 ≤ 1
+    by true = omega arith
+    by false = omega arith
+
+pub count_few : (q : Query) (rows : List Row) → count_of q rows ≤ length rows
+count_few q [] = omega arith
+count_few q (row ∷ rows) = omega (arith, few q row, count_few q rows)
+
+-- one row more
+pub count_more : (q : Query) (rows : List Row) (i : ℕ) (d : Row) (n share : ℕ) → i < length rows → length rows ≤ 65536 → n ≡ count_of q (take i rows)
+    → share ≡ point_at (predicate_at q 0).low 1 (get_or (get_or rows i d).buckets (predicate_at q 0).column 0)
+    → plus n share ≡ count_of q (take (i + 1) rows)
+count_more q rows i d n share lt small so_far is =
+    let next : count_of q (take (i + 1) rows) ≡ count_of q (take i rows) + count_of q (get_or rows i d ∷ []) =
+    ap (count_of q) (take_more rows i d lt) ∙ total-append (counts q) (take i rows) (get_or rows i d ∷ []) in
+    let one : share ≡ counts q (get_or rows i d) = is in
+    let most : count_of q (take i rows) ≤ 65536 = omega (arith, count_few q (take i rows), length-take i rows) in
+    omega (arith, next, one, so_far, most, few q (get_or rows i d))
