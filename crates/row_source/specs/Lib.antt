@@ -1,2 +1,5 @@
 pub mod Input
+pub mod Left
+pub mod Progress
+pub mod Rows
 pub mod Source

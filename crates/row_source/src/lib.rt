@@ -12,10 +12,17 @@
 //! ```
 #![tactic(auto)]
 
+mod faults;
 mod input;
+mod read;
+mod record;
+mod records;
 mod source;
 
+pub use faults::RowFault;
 pub use input::{LIMIT, ReadFault, read_all};
+pub use read::read_rows;
+pub use report_lines::RowWhy;
 pub use source::{Failed, MemorySource, Source, SureSource};
 
 #[cfg(test)]
