@@ -123,7 +123,7 @@ held_row columns fs row few e = by (eqb (length fs) (length columns + 1)) e
     by true h = held_from columns columns 0 (0 ∷ 0 ∷ 0 ∷ 0 ∷ 0 ∷ 0 ∷ []) fs row (record { here = refl; inside = omega arith }) refl few ((λ i lt. absurd (omega (arith, lt))), (λ i le. no_buckets i)) h
     by false h = absurd cc
 
-abbrev all_good : List Row → Result (List Row) RowFault
+abbrev pub all_good : List Row → Result (List Row) RowFault
 all_good rows = Ok rows
 
 held_rows : (columns : List Column) (done : List Row) (rs : List (List (List ℕ))) (rows : List Row) → length columns ≤ 6 → All (IsRowOf columns) done

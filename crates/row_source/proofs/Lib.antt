@@ -1,3 +1,4 @@
+pub mod CountLaws
 pub mod FieldLaws
 pub mod HeaderLaws
 pub mod HeldLaws

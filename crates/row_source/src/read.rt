@@ -1,4 +1,4 @@
-ghost use Rattle.std.specs.Prelude.{◌≡◌, ◌∷◌, ℕ, List, IfErr, IfOk};
+ghost use Rattle.std.specs.Prelude.{◌≡◌, ◌∷◌, ◌≤◌, ℕ, List, length, IfErr, IfOk};
 ghost use Rattle.csv.specs.Records.{fields_of};
 ghost use Rattle.text_reading.specs.Reading.{Gives};
 ghost use Rattle.row_source.specs.Progress.{outcome};
@@ -86,6 +86,9 @@ pub fn read_rows(
 
     // So the widths of the schema hold each row.
     ensures held { IfOk result (λ v. AreRowsOf schema.now v.items) }
+
+    // There are at most as many as the capacity.
+    ensures few { IfOk result (λ v. length v.items ≤ capacity) }
 {
     let _count = schema.count();
     all_rows(alloc, schema, capacity, bytes)
