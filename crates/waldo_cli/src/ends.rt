@@ -1,12 +1,12 @@
 //! A source over any reader and a sink over any writer, each with a count of its faults.
 ghost use Rattle.std.specs.Prelude.{◌≡◌, None};
 
+use fault_count::raised;
+use report_lines::Sink;
+use row_source::Source;
 use std::io::{Read, Write};
-use waldo_run::sink::Sink;
-use waldo_run::source::Source;
-use waldo_run::{sink, source};
 
-/// A source over a reader.
+/// A source over a reader. It tells the bytes that the reader tells.
 #[derive(Drop)]
 pub struct Reading<R> {
     inner: R,
@@ -29,18 +29,18 @@ impl<R: Read> Source for Reading<R> {
         self.faults
     }
 
-    fn read(&mut self, buffer: &mut [u8]) -> Result<usize, source::Failed> {
+    fn read(&mut self, buffer: &mut [u8]) -> Result<usize, row_source::Failed> {
         match self.inner.read(buffer) {
             Ok(count) => Ok(count),
             Err(_) => {
-                self.faults = self.faults.saturating_add(1);
-                Err(source::Failed)
+                self.faults = raised(self.faults);
+                Err(row_source::Failed)
             }
         }
     }
 }
 
-/// A sink over a writer.
+/// A sink over a writer, which tells nothing of the bytes taken.
 #[derive(Drop)]
 pub struct Writing<W> {
     inner: W,
@@ -63,13 +63,14 @@ impl<W: Write> Sink for Writing<W> {
         self.faults
     }
 
-    fn put(&mut self, piece: &[u8]) -> Result<(), sink::Failed> {
+    // A write that takes nothing of a piece that isn't empty counts as a failure.
+    fn put(&mut self, piece: &[u8]) -> Result<(), report_lines::Failed> {
         let mut rest = piece;
         while !rest.is_empty() {
             match self.inner.write(rest) {
                 Ok(0) | Err(_) => {
-                    self.faults = self.faults.saturating_add(1);
-                    return Err(sink::Failed);
+                    self.faults = raised(self.faults);
+                    return Err(report_lines::Failed);
                 }
                 Ok(count) => rest = &rest[count..],
             }

@@ -9,7 +9,7 @@ mod ends;
 use ends::{Reading, Writing};
 use std::process::ExitCode;
 use std::{env, io};
-use waldo_run::run::run_still;
+use waldo_run::run_still;
 
 // The command words, without the program's name.
 fn words_of(rt: &HostRuntime) -> io::Result<Vec<String>> {

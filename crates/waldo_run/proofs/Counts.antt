@@ -5,7 +5,8 @@ use Rattle.list_facts.specs.Count.{total}
 use Rattle.list_facts.proofs.Count.{total-append}
 use Rattle.ring128.specs.Ring.{plus}
 use Rattle.point_keys.specs.Points.{point_at}
-use Rattle.query_plan.specs.Query.{predicate_at}
+use Rattle.std.proofs.lemmas.Bool.{lt-ltb}
+use Rattle.query_plan.specs.Query.{predicate_at, IsNext, IsPlaced, Suits}
 use Rattle.query_plan.specs.declared.query.Query.{Query}
 use Rattle.table_schema.specs.declared.rows.Row.{Row}
 use Rattle.waldo_run.specs.Counting.{counts, count_of}
@@ -31,3 +32,11 @@ count_more q rows i d n share lt small so_far is =
     let one : share ≡ counts q (get_or rows i d) = is in
     let most : count_of q (take i rows) ≤ 65536 = omega (arith, count_few q (take i rows), length-take i rows) in
     omega (arith, next, one, so_far, most, few q (get_or rows i d))
+
+-- the first predicate of a legal query has a column
+pub first_column : (columns : ℕ) (bits : List ℕ) (q : Query) → Suits columns bits q → (predicate_at q 0).column < columns
+first_column columns bits q s =
+    let some : 0 < q.count = omega (arith, s.some) in
+    let placed : IsPlaced columns bits q 0 = s.placed 0 (omega arith) in
+    let next : IsNext columns bits (take 0 q.predicates) (predicate_at q 0) = rw (lt-ltb 0 q.count some) at placed in
+    next.legal.column
