@@ -1,6 +1,6 @@
 -- The rows of a chunk.
-use Rattle.std.proofs.Common.{◌≡◌, ◌∙◌, refl, sym, ap, ℕ, zero, suc, ◌+◌, ◌-◌, ◌*◌, ◌/◌, ◌<◌, ◌≤◌, min, List, [], ◌∷◌, ◌++◌, length, take, drop, arith, ⊎_elim}
-use Rattle.std.proofs.lemmas.List.{drop-take, length-take, length-drop, take_all}
+use Rattle.std.proofs.Common.{◌≡◌, ◌∙◌, refl, sym, ap, ℕ, zero, suc, ◌+◌, ◌-◌, ◌*◌, ◌<◌, ◌≤◌, min, List, [], ◌∷◌, ◌++◌, length, take, drop, arith, ⊎_elim}
+use Rattle.std.proofs.lemmas.List.{drop-take, length-take, length-drop, take_all, take_min}
 use Rattle.std.proofs.lemmas.Nat.{mul-le}
 use Rattle.std.proofs.lemmas.Bool.{cases_order}
 use Rattle.std.proofs.Math.Seq.{drop-nil, take-add}
@@ -89,3 +89,12 @@ scanned_more t0 t1 w c rows first second h =
     (listed_same (rows_in rows c) _ _ (λ i lt. let few : i < 64 = omega arith in
     ap (λ (xs : List ℕ). plus (dot_of t0 xs) (dot_of t1 (row_of w i (chunk_of w c second)))) (row_in_chunk w c i first few)
     ∙ ap (λ (xs : List ℕ). plus (dot_of t0 (row_of w (64 * c + i) first)) (dot_of t1 xs)) (row_in_chunk w c i second few))))
+
+-- a chunk by how many rows it has
+pub chunk_by_rows : (w c rows : ℕ) (xs : List ℕ) → length xs ≡ rows * w → c < chunks_of rows
+    → take (rows_in rows c * w) (drop (64 * c * w) xs) ≡ chunk_of w c xs
+chunk_by_rows w c rows xs e h =
+    let at : 64 * c * w ≡ 64 * w * c = omega arith in
+    let rest = drop (64 * w * c) xs in
+    let count : rows_in rows c * w ≡ min (64 * w) (length rest) = sym (chunk_long w c rows xs e h) ∙ length-take (64 * w) rest in
+    rw (at, count) (take_min (64 * w) rest)

@@ -1,3 +1,4 @@
+pub mod Columns
 pub mod Pieces
-pub mod Shelf
 pub mod Scan
+pub mod Shelf

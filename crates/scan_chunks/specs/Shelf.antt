@@ -1,5 +1,5 @@
 -- What a shelf holds.
-use Rattle.std.specs.Prelude.{◌≡◌, ℕ, ◌+◌, ◌*◌, ◌<◌, ◌≤◌, List, length}
+use Rattle.std.specs.Prelude.{◌≡◌, ℕ, ◌+◌, ◌*◌, ◌<◌, ◌≤◌, length}
 use Rattle.scan_chunks.specs.Pieces.{Pieces, chunks_of}
 
 -- how many rows, the number of the first chunk, how many columns beside the value's, how wide each is, and the pieces by column;

@@ -12,12 +12,18 @@
 //! ```
 #![tactic(auto)]
 
+mod column;
+mod many;
+mod owned;
 mod read;
 mod scan;
 mod shelf;
 mod tables;
 mod visit;
 
+pub use column::Column;
+pub use many::scan_many;
+pub use owned::OwnedShelf;
 pub use read::read_column;
 pub use scan::scan_one;
 pub use shelf::{Lent, Shelf};

@@ -1,5 +1,5 @@
-use Rattle.std.proofs.Common.{rules, arith, ◌≡◌, ◌∙◌, sym, ap, ℕ, ◌+◌, ◌-◌, ◌*◌, ◌<◌, ◌≤◌, take}
-use Rattle.scan_chunks.specs.Pieces.{chunk_of, chunks_of}
+use Rattle.std.proofs.Common.{arith, ◌≡◌, ◌∙◌, sym, ◌+◌, ◌-◌, ◌≤◌}
+use Rattle.scan_chunks.specs.Pieces.{chunks_of}
 use Rattle.scan_chunks.proofs.Chunks.{chunk_more}
 use Rattle.scan_chunks.proofs.Visits.{stopped, visited_more}
 use Rattle.scan_chunks.proofs.read.read_column.Goals as goal

@@ -1,4 +1,4 @@
-use Rattle.std.proofs.Common.{rules, arith, ◌≡◌, ◌∙◌, sym, ap, ℕ, ◌+◌, ◌-◌, ◌*◌, ◌<◌, ◌≤◌, min}
+use Rattle.std.proofs.Common.{rules, arith, ◌≡◌, ◌∙◌, ◌+◌, ◌-◌, ◌*◌, ◌<◌, ◌≤◌, min}
 use Rattle.scan_chunks.specs.Pieces.{chunks_of}
 use Rattle.scan_chunks.proofs.Chunks.{chunk_long, scanned_more}
 use Rattle.scan_chunks.proofs.Visits.{stopped, visited_more}
