@@ -22,7 +22,8 @@ width_of w column = if column == w.columns then 1 else 2 ^ slice_index w.bits co
 -- the code of a row at a column: 1 at its bucket and 0 elsewhere; or its value
 abbrev pub code_at : Widths → ℕ → Row → List ℕ
 code_at w column row =
-    if column == w.columns then word_of row.value ∷ [] else one_hot (2 ^ slice_index w.bits column) (slice_index row.buckets column)
+    if column == w.columns then word_of row.value ∷ []
+    else one_hot (2 ^ slice_index w.bits column) (slice_index row.buckets column)
 
 -- the whole code: each column in order, and the value
 abbrev pub code_of : Widths → Row → List ℕ

@@ -9,12 +9,16 @@ use Rattle.onehot_column.specs.Code.{code_at, code_of, cells_at}
 
 -- the part of a row's code at a column is the code at that column
 abbrev pub CodeParts : Type 0
-CodeParts = (w : Widths) (row : Row) (column : ℕ) → column ≤ w.columns → cells_at w column (code_of w row) ≡ code_at w column row
+CodeParts =
+    (w : Widths) (row : Row) (column : ℕ) → column ≤ w.columns
+    → cells_at w column (code_of w row) ≡ code_at w column row
 
 -- at each column the pieces of a row share the code at that column
 abbrev pub PiecesShare : Type 0
-PiecesShare = (w : Widths) (row : Row) (seed : Seed) (column : ℕ) → column ≤ w.columns
-    → AreShares (λ k. cells_at w column (share_of k seed (code_of w row))) (λ k. cells_at w column (share_of ((k + 1) % 3) seed (code_of w row))) (code_at w column row)
+PiecesShare =
+    (w : Widths) (row : Row) (seed : Seed) (column : ℕ) → column ≤ w.columns
+    → AreShares (λ k. cells_at w column (share_of k seed (code_of w row)))
+    (λ k. cells_at w column (share_of ((k + 1) % 3) seed (code_of w row))) (code_at w column row)
 
 -- the part of a code at the value's column is its last number
 abbrev pub ValueIsLast : Type 0

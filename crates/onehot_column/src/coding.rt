@@ -6,8 +6,8 @@ use ring128::{Memory, Words, neg};
 use std::alloc::Global;
 use table_schema::{Row, Widths};
 
-/// The code of a row: for each column in order 2^bits numbers, 1 at the bucket and 0 elsewhere, and then the value modulo 2^128.
-/// The only error is want of memory.
+/// The code of a row: for each column in order 2^bits numbers, 1 at the bucket and 0 elsewhere, and then the
+/// value modulo 2^128. The only error is want of memory.
 pub fn code(alloc: Global, widths: &Widths, row: &Row) -> Result<Words, Memory>
     requires { Holds widths.now row.now }
     ensures { IfOk result (λ w. w ≡ code_of widths.now row.now) }

@@ -13,7 +13,8 @@ SplitShares = (s : Seed) (values : List ℕ) → All (λ v. v < 2 ^ 128) values
 
 -- shares of a list reveal it at each place
 abbrev pub SharesReveal : Type 0
-SharesReveal = (first second : ℕ → List ℕ) (whole : List ℕ) (i : ℕ) → AreShares first second whole → i < length whole
+SharesReveal =
+    (first second : ℕ → List ℕ) (whole : List ℕ) (i : ℕ) → AreShares first second whole → i < length whole
     → reveal_of (pair_at (first 0) (second 0) i) (pair_at (first 1) (second 1) i) (pair_at (first 2) (second 2) i) ≡ slice_index whole i
 
 -- a part of shares is shares of the part
@@ -23,13 +24,19 @@ PartsShare = (first second : ℕ → List ℕ) (whole : List ℕ) (start n : ℕ
 
 -- shares of two lists, one after the other, are shares of the lists one after the other
 abbrev pub AppendedShare : Type 0
-AppendedShare = (first second first' second' : ℕ → List ℕ) (whole whole' : List ℕ) → AreShares first second whole → AreShares first' second' whole'
+AppendedShare =
+    (first second first' second' : ℕ → List ℕ) (whole whole' : List ℕ)
+    → AreShares first second whole → AreShares first' second' whole'
     → AreShares (λ k. first k ++ first' k) (λ k. second k ++ second' k) (whole ++ whole')
 
 -- the sums of pairs reveal the sum
 abbrev pub AddedReveals : Type 0
-AddedReveals = (a0 a1 a2 b0 b1 b2 : Pair) → reveal_of (added_pair a0 b0) (added_pair a1 b1) (added_pair a2 b2) ≡ plus (reveal_of a0 a1 a2) (reveal_of b0 b1 b2)
+AddedReveals =
+    (a0 a1 a2 b0 b1 b2 : Pair)
+    → reveal_of (added_pair a0 b0) (added_pair a1 b1) (added_pair a2 b2) ≡ plus (reveal_of a0 a1 a2) (reveal_of b0 b1 b2)
 
 -- the scaled pairs reveal the product with the factor
 abbrev pub ScaledReveals : Type 0
-ScaledReveals = (by : ℕ) (a0 a1 a2 : Pair) → reveal_of (scaled_pair by a0) (scaled_pair by a1) (scaled_pair by a2) ≡ times (reveal_of a0 a1 a2) by
+ScaledReveals =
+    (by : ℕ) (a0 a1 a2 : Pair)
+    → reveal_of (scaled_pair by a0) (scaled_pair by a1) (scaled_pair by a2) ≡ times (reveal_of a0 a1 a2) by

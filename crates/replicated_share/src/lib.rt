@@ -1,7 +1,8 @@
-//! Shares of numbers and of lists at three servers. A list is split into three lists that add up to it place by place,
-//! modulo 2^128, and each server holds two of the three, so that any two servers hold all (Araki et al. 2016).
+//! Shares of numbers and of lists at three servers. A list is split into three lists that add up to it place
+//! by place, modulo 2^128, and each server holds two of the three, so that any two servers hold all
+//! (Araki et al. 2016).
 //!
-//! It never learns what the numbers mean, sends nothing, and takes no seed of its own: the caller gives one seed a list.
+//! It never learns what the numbers mean, sends nothing, and picks no seed: the caller gives one for each list.
 //!
 //! ```text
 //! let three = split(alloc, &[7, 9], &seed)?;

@@ -1,5 +1,5 @@
--- What the parts of three servers add up to. Server 0 has shares a and b of the first factor, server 1 b and c, server 2 c and a;
--- of the second factor d and e, e and f, f and d; and the seeds of zero s and t, t and u, u and s.
+-- What the parts of three servers add up to. Server 0 has shares a and b of the first factor, server 1 b and c,
+-- server 2 c and a; of the second factor d and e, e and f, f and d; and the seeds of zero s and t, t and u, u and s.
 use Rattle.std.specs.Prelude.{ℕ, ◌≡◌, ◌+◌, ◌%◌, List, slice_index}
 use Rattle.list_facts.specs.Listed.{listed}
 use Rattle.prg_chacha.specs.declared.seed.Seed.{Seed}
@@ -10,7 +10,9 @@ use Rattle.share_product.specs.Product.{local_of, local_rows_of, inner_of}
 
 -- the parts of a product add up to it
 abbrev pub LocalsAddUp : Type 0
-LocalsAddUp = (a b c d e f : ℕ) → plus (plus (local_of a b d e) (local_of b c e f)) (local_of c a f d) ≡ times (plus (plus a b) c) (plus (plus d e) f)
+LocalsAddUp =
+    (a b c d e f : ℕ)
+    → plus (plus (local_of a b d e) (local_of b c e f)) (local_of c a f d) ≡ times (plus (plus a b) c) (plus (plus d e) f)
 
 -- the parts of the products of two lists, with their parts of zero, add up to the products
 abbrev pub RowsAddUp : Type 0

@@ -11,7 +11,8 @@ local_of a a' b b' = plus (plus (times a b) (times a b')) (times a' b)
 
 -- a server's parts of the products of two lists, place by place
 abbrev pub locals_of : List ℕ → List ℕ → List ℕ → List ℕ → List ℕ
-locals_of a a' b b' = listed (length a) (λ i. local_of (slice_index a i) (slice_index a' i) (slice_index b i) (slice_index b' i))
+locals_of a a' b b' =
+    listed (length a) (λ i. local_of (slice_index a i) (slice_index a' i) (slice_index b i) (slice_index b' i))
 
 -- the same, each with a part of zero, whose counters begin at start
 abbrev pub local_rows_of : List ℕ → List ℕ → List ℕ → List ℕ → Seed → Seed → ℕ → List ℕ

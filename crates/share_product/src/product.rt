@@ -15,8 +15,8 @@ pub fn local(a: Pair, b: Pair) -> u128
     add(near, mul(a.second, b.first))
 }
 
-/// A server's parts of the products of two lists, place by place, each with the part of zero at `start` plus its place. The
-/// list is as long as the two. The only error is want of memory.
+/// A server's parts of the products of two lists, place by place, each with the part of zero at `start` plus its
+/// place. The result is as long as the two lists. The only error is want of memory.
 pub fn local_rows(
     alloc: Global,
     a: &PairList,
@@ -26,7 +26,8 @@ pub fn local_rows(
 ) -> Result<Words, Memory>
     requires lengths { length a.now.first ≡ length b.now.first }
     requires counters { start + length a.now.first < 2 ^ 64 }
-    ensures { IfOk result (λ w. w ≡ local_rows_of a.now.first a.now.second b.now.first b.now.second zero.now.own zero.now.next start) }
+    ensures { IfOk result (λ w. w ≡
+        local_rows_of a.now.first a.now.second b.now.first b.now.second zero.now.own zero.now.next start) }
 {
     let mut rows = locals(alloc, a, b)?;
     zero.add_parts(start, &mut rows);
@@ -65,7 +66,7 @@ pub fn inner(a: &PairList, b: &PairList) -> u128
     add(near, dot(a.second.as_slice(), b_first))
 }
 
-/// What a server holds after it sent its part of each number to the server before and got the next server's part.
+/// What a server holds after it sent its part of each number to the server before and got the next server's.
 pub fn accept_reshare(own: Words, got: Words) -> PairList
     requires { length own ≡ length got }
     ensures first { result.first ≡ own }

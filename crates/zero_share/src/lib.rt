@@ -1,7 +1,8 @@
-//! Parts of zero: numbers that three servers make, each by itself, and that add up to 0 modulo 2^128. A server adds its part
-//! to a word before the word leaves it, so that the word alone shows nothing and the sum of the three stays (Araki et al. 2016).
+//! Parts of zero: numbers that three servers make, each by itself, and that add up to 0 modulo 2^128. A server
+//! adds its part to a word before the word leaves it, and the sum of the three servers' words stays what it was
+//! (Araki et al. 2016).
 //!
-//! It never says which counter is next: a counter that is used twice with the same seeds gives the same part twice.
+//! It never says which counter is next: a counter used twice with the same seeds gives the same part twice.
 //!
 //! ```text
 //! let zero = ZeroSeeds { own: z0, next: z1 };
