@@ -19,3 +19,6 @@ mod words;
 
 pub use run::run_still;
 pub use words::{Ask, Command, WordFault, read_words};
+
+#[cfg(test)]
+mod tests;

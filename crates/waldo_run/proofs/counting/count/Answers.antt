@@ -13,7 +13,7 @@ loop-row-preserved c =
     let column = (predicate_at c.args.query.now 0).column in
     let there : column < 6 = omega (arith, first_column _ _ _ c.requires.suits, c.args.widths.now.legal.1) in
     let below : get_or (get_or c.args.rows.now c.loop-row.row-index d).buckets column 0 < 2 ^ get_or c.args.widths.now.bits column 0 =
-        (c.requires.held c.loop-row.row-index d lt).buckets column there in
+    (c.requires.held c.loop-row.row-index d lt).buckets column there in
     rw c.add-total.ensures
     (count_more c.args.query.now c.args.rows.now c.loop-row.row-index d c.loop-row.total c.add-share.result lt c.requires.few c.loop-row.invariant
     (rw (c.add-share.ensures, c.value.ensures, c.value-in-loop-row.ensures) (c.in_ok-zero.ensures.pair (get_or (get_or c.args.rows.now c.loop-row.row-index d).buckets column 0) below)))
