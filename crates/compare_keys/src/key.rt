@@ -28,6 +28,7 @@ pub fn generate(
     requires within { a < 2 ^ bits }
     ensures zero { IfOk result (λ p. p.0 ≡ compare_key Party.Zero bits a weight root0.now root1.now) }
     ensures one { IfOk result (λ p. p.1 ≡ compare_key Party.One bits a weight root0.now root1.now) }
+    ensures bits { IfOk result (λ p. (length p.0.levels ≡ bits) × (length p.1.levels ≡ bits)) }
     ensures pair { IfOk result (λ p. IsKeyPair bits (value_of p.0 Party.Zero) (value_of p.1 Party.One) (at_most a weight)) }
 {
     let mut levels = Vec::with_capacity(alloc, bits as usize)?;

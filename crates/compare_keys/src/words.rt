@@ -1,7 +1,7 @@
 // Comparison keys as lists of words.
 
 ghost use Rattle.std.specs.Prelude.{◌≡◌, ◌≤◌, IfOk, IfErr, length};
-ghost use Rattle.key_tree.specs.KeyWords.{HasFault};
+ghost use Rattle.key_tree.specs.KeyWords.{HasFault, HasNoFault};
 ghost use Rattle.compare_keys.specs.CompareWords.{length_of, words_of_key, key_of_words, controls};
 
 use crate::key::CompareKey;
@@ -20,6 +20,7 @@ pub fn length(bits: u8) -> u64
 /// control word (1) and its value correction (1), and the last word. [`from_words`] makes the key of them again.
 pub fn to_words(alloc: Global, key: &CompareKey) -> Result<Words, Memory>
     ensures words { IfOk result (λ w. w ≡ words_of_key key.now) }
+    ensures length { IfOk result (λ w. length w ≡ length_of (length key.now.levels)) }
     ensures undone { IfOk result (λ w. key_of_words (length key.now.levels) w ≡ key.now) }
 {
     key_tree::to_words(alloc, key)
@@ -33,6 +34,7 @@ pub fn from_words(alloc: Global, bits: u8, words: &[u128]) -> Result<CompareKey,
     ensures key { IfOk result (λ k. k ≡ key_of_words bits words.now) }
     ensures bits { IfOk result (λ k. length k.levels ≡ bits) }
     ensures undone { IfOk result (λ k. words_of_key k ≡ words.now) }
+    ensures good { IfOk result (λ k. HasNoFault (length words.now) (length_of bits) bits (controls words.now)) }
     ensures fault { IfErr result (HasFault (length words.now) (length_of bits) bits (controls words.now)) }
 {
     key_tree::from_words(alloc, bits, words)

@@ -118,6 +118,10 @@ last_back f w k long =
     let n : 2 + w * length k.levels ≡ length front = omega (arith, length-levels f w k.levels long) in
     ap (λ i. get_or (front ++ k.last ∷ []) i 0) n ∙ get_or-append_seam front k.last [] 0
 
+pub length-key_words : {L : Type 0} (f : L → List ℕ) (w : ℕ) (k : Key L) → ((l : L) → length (f l) ≡ w)
+    → length (key_words f k) ≡ 3 + w * length k.levels
+length-key_words f w k long = omega (arith, length-append (flat_map f k.levels) (k.last ∷ []), length-levels f w k.levels long)
+
 -- the key is read back
 pub key_back : {L : Type 0} (f : L → List ℕ) (read : List ℕ → L) (w : ℕ) (k : Key L) → ((l : L) → length (f l) ≡ w)
     → All (λ l. read (f l) ≡ l) k.levels → from_halves_of (low_of k.root) (high_of k.root) ≡ k.root

@@ -58,3 +58,8 @@ HasFault had wanted levels controls (Length h w) = (h ≡ had) × (w ≡ wanted)
 HasFault had wanted levels controls (Bits level) =
     (had ≡ wanted) × (level < levels) × (3 < controls level) × ((i : ℕ) → i < level → controls i ≤ 3)
 HasFault had wanted levels controls Memory = ⊤
+
+-- when none comes
+pub record HasNoFault (had wanted levels : ℕ) (control : ℕ → ℕ) : Type 0 where
+  pub length : had ≡ wanted
+  pub controls : (i : ℕ) → i < levels → control i ≤ 3

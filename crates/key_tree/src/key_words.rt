@@ -1,7 +1,7 @@
 // Keys as lists of words.
 
 ghost use Rattle.std.specs.Prelude.{◌≡◌, ◌≤◌, IfOk, IfErr, length};
-ghost use Rattle.key_tree.specs.KeyWords.{length_of, key_words, key_read, control_at, HasFault};
+ghost use Rattle.key_tree.specs.KeyWords.{length_of, key_words, key_read, control_at, HasFault, HasNoFault};
 
 use crate::fault::KeyFault;
 use crate::key_level::KeyLevel;
@@ -20,6 +20,7 @@ pub fn length<L: KeyLevel>(bits: u8) -> u64
 /// The words of a key.
 pub fn to_words<L: KeyLevel>(alloc: Global, key: &TreeKey<L>) -> Result<Words, Memory>
     ensures words { IfOk result (λ w. w ≡ key_words L.words key.now) }
+    ensures length { IfOk result (λ w. length w ≡ length_of L.WIDTH (length key.now.levels)) }
     ensures undone { IfOk result (λ w. key_read L.read L.WIDTH (length key.now.levels) w ≡ key.now) }
 {
     let mut words = Vec::with_capacity(alloc, 3 + L::WIDTH * key.levels.len())?;
@@ -44,6 +45,7 @@ pub fn from_words<L: KeyLevel>(
     ensures key { IfOk result (λ k. k ≡ key_read L.read L.WIDTH bits words.now) }
     ensures bits { IfOk result (λ k. length k.levels ≡ bits) }
     ensures undone { IfOk result (λ k. key_words L.words k ≡ words.now) }
+    ensures good { IfOk result (λ k. HasNoFault (length words.now) (length_of L.WIDTH bits) bits (control_at L.WIDTH words.now)) }
     ensures fault { IfErr result (HasFault (length words.now) (length_of L.WIDTH bits) bits (control_at L.WIDTH words.now)) }
 {
     let wanted = length::<L>(bits);

@@ -29,3 +29,10 @@ returns-clause-pair c = λ x h.
     let last = c.last_word-last.ensures ∙ last_of_none _ _ _ _ _ _ _ done c.loop-place.invariant.last in
     rw (c.in_ok-keys.ensures.zero, c.in_ok-keys.ensures.one, e, last)
     (compare_keys_add_up c.args.bits c.args.a c.args.weight x c.args.root0.now c.args.root1.now c.requires.within h (search rules))
+
+pub returns-clause-bits : goal.returns-clause-bits
+returns-clause-bits c =
+    let done : c.loop-place.place ≡ 0 = omega arith in
+    let e = levels_of_none _ _ _ _ _ _ _ _ done c.loop-place.invariant.levels in
+    let long : length c.loop-place.levels.items ≡ c.args.bits = ap length e ∙ length-levels_of c.args.weight c.args.bits c.args.a 0 (start Zero c.args.root0.now) (start One c.args.root1.now) in
+    rw (c.in_ok-keys.ensures.zero, c.in_ok-keys.ensures.one) (long, long)

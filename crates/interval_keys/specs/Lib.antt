@@ -1,0 +1,3 @@
+pub mod IntervalWords
+pub mod Intervals
+pub mod Keys
