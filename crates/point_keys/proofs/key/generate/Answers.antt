@@ -34,10 +34,5 @@ pub returns-clause-bits : goal.returns-clause-bits
 returns-clause-bits c =
     let done : c.loop-place.place ≡ 0 = omega arith in
     let e = levels_of_none _ _ _ _ _ _ done c.loop-place.invariant.levels in
-<<<<<<< HEAD
-    let long = length-levels_of c.args.bits c.args.a (start Zero c.args.root0.now) (start One c.args.root1.now) in
-    (rw (c.in_ok-keys.ensures.zero, e) long, rw (c.in_ok-keys.ensures.one, e) long)
-=======
     let long : length c.loop-place.levels.items ≡ c.args.bits = ap length e ∙ length-levels_of c.args.bits c.args.a (start Zero c.args.root0.now) (start One c.args.root1.now) in
     rw (c.in_ok-keys.ensures.zero, c.in_ok-keys.ensures.one) (long, long)
->>>>>>> h-keys

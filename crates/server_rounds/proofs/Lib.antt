@@ -1,3 +1,0 @@
-pub mod Extend
-pub mod Runs
-pub mod Both

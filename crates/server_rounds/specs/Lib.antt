@@ -1,3 +1,0 @@
-pub mod Group
-pub mod Rounds
-pub mod Runs
