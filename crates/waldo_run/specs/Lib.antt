@@ -1,4 +1,5 @@
 pub mod Counting
 pub mod Replies
+pub mod Table
 pub mod Run
 pub mod Words

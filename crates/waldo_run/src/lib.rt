@@ -15,6 +15,7 @@
 mod counting;
 mod reply;
 mod run;
+mod table;
 mod words;
 
 pub use run::run_still;

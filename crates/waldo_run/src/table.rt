@@ -1,0 +1,110 @@
+//! The rows at three servers: each row is split by a seed of its own, and each server keeps its pieces column by column.
+ghost use Rattle.std.specs.Prelude.{◌≡◌, ◌<◌, ◌≤◌, ◌+◌, ◌++◌, ℕ, [], All, IfOk, OnOk, length};
+ghost use Rattle.onehot_column.specs.Piece.{HasWidths};
+ghost use Rattle.table_schema.specs.Widths.{Holds};
+ghost use Rattle.waldo_run.specs.Table.{AreCells, Grown, entries_of};
+
+use onehot_column::{Piece, pieces};
+use prg_chacha::{Seed, derive};
+use ring128::Memory;
+use std::alloc::Global;
+use table_schema::{Row, Widths};
+
+/// The cells of a column at one server so far: its own shares and those of the next server, row after row.
+#[derive(Drop)]
+pub(crate) struct Cells {
+    pub width: u64,
+    pub first: Vec<u128>,
+    pub second: Vec<u128>,
+}
+
+impl Cells {
+    // No cells yet, with room for those of so many rows.
+    fn new(alloc: Global, width: u64, rows: usize) -> Result<Cells, Memory>
+        requires few { rows ≤ 65536 }
+        requires narrow { width ≤ 256 }
+        ensures width { IfOk result (λ c. c.width ≡ width) }
+        ensures first { IfOk result (λ c. c.first.items ≡ []) }
+        ensures second { IfOk result (λ c. c.second.items ≡ []) }
+    {
+        let room = rows * width as usize;
+        Ok(Cells {
+            width,
+            first: Vec::with_capacity(alloc, room)?,
+            second: Vec::with_capacity(alloc, room)?,
+        })
+    }
+
+    // Adds the cells of a row.
+    fn append(&mut self, first: &[u128], second: &[u128]) -> Result<(), Memory>
+        ensures width { self.new.width ≡ self.old.width }
+        ensures first { OnOk result (self.new.first.items ≡ self.old.first.items ++ first.now) }
+        ensures second { OnOk result (self.new.second.items ≡ self.old.second.items ++ second.now) }
+    {
+        self.first.extend_from_slice(first)?;
+        self.second.extend_from_slice(second)?;
+        Ok(())
+    }
+}
+
+// The cells of all columns at a server, none so far.
+fn no_cells(alloc: Global, widths: &Widths, rows: usize) -> Result<Vec<Cells>, Memory>
+    requires few { rows ≤ 65536 }
+    ensures { (k : ℕ) → IfOk result (λ c. AreCells widths.now k [] c.items) }
+{
+    let mut columns = Vec::with_capacity(alloc, widths.columns as usize + 1)?;
+    for c in 0..widths.columns as usize {
+        columns.push(Cells::new(alloc, 1u64 << widths.bits[c], rows)?)?;
+    }
+    columns.push(Cells::new(alloc, 1, rows)?)?;
+    Ok(columns)
+}
+
+// Adds the piece of a row.
+fn append(columns: &mut Vec<Cells>, widths: &Widths, piece: &Piece) -> Result<(), Memory>
+    requires count { length columns.old.items ≡ widths.now.columns + 1 }
+    requires widths { HasWidths widths.now piece.now }
+    ensures { OnOk result (Grown widths.now piece.now.cells.first piece.now.cells.second columns.old.items columns.new.items) }
+{
+    for c in 0..widths.columns {
+        let (first, second) = piece.column(widths, c);
+        columns[c as usize].append(first, second)?;
+    }
+    let value = piece.value();
+    columns[widths.columns as usize].append(&[value.first], &[value.second])?;
+    Ok(())
+}
+
+// The cells of all columns at the three servers.
+#[derive(Drop)]
+struct AllCells {
+    zero: Vec<Cells>,
+    one: Vec<Cells>,
+    two: Vec<Cells>,
+}
+
+// Splits each row by its seed and adds its pieces to the servers' cells.
+fn split_rows(
+    alloc: Global,
+    widths: &Widths,
+    master: &Seed,
+    rows: &[Row],
+) -> Result<AllCells, Memory>
+    requires held { All (Holds widths.now) rows.now }
+    requires few { length rows.now ≤ 65536 }
+    ensures zero { IfOk result (λ c. AreCells widths.now 0 (entries_of master.now rows.now) c.zero.items) }
+    ensures one { IfOk result (λ c. AreCells widths.now 1 (entries_of master.now rows.now) c.one.items) }
+    ensures two { IfOk result (λ c. AreCells widths.now 2 (entries_of master.now rows.now) c.two.items) }
+{
+    let mut zero = no_cells(alloc, widths, rows.len())?;
+    let mut one = no_cells(alloc, widths, rows.len())?;
+    let mut two = no_cells(alloc, widths, rows.len())?;
+    for (i, row) in rows.iter().enumerate() {
+        let seed = derive(master, 1, 0, i as u64);
+        let row_pieces = pieces(alloc, widths, row, &seed)?;
+        append(&mut zero, widths, &row_pieces.zero)?;
+        append(&mut one, widths, &row_pieces.one)?;
+        append(&mut two, widths, &row_pieces.two)?;
+    }
+    Ok(AllCells { zero, one, two })
+}
