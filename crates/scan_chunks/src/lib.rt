@@ -29,3 +29,6 @@ pub use scan::scan_one;
 pub use shelf::{Lent, Shelf};
 pub use tables::Tables;
 pub use visit::Visit;
+
+#[cfg(test)]
+mod tests;
