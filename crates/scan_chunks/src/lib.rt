@@ -13,6 +13,7 @@
 #![tactic(auto)]
 
 mod column;
+pub mod laws;
 mod many;
 mod owned;
 mod read;
