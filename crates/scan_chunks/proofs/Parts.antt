@@ -32,11 +32,11 @@ numbers-append : (z o : List ℕ) (w m n : ℕ) (xs ys us vs : List ℕ) → len
     → listed (m + n) (row_number z o w (xs ++ us) (ys ++ vs)) ≡ listed m (row_number z o w xs ys) ++ listed n (row_number z o w us vs)
 numbers-append z o w m n xs ys us vs e f =
     let front : listed m (row_number z o w (xs ++ us) (ys ++ vs)) ≡ listed m (row_number z o w xs ys) =
-        listed_same m (row_number z o w (xs ++ us) (ys ++ vs)) (row_number z o w xs ys)
-        (λ i h. rw (row_before w i m xs us e h, row_before w i m ys vs f h)) in
+    listed_same m (row_number z o w (xs ++ us) (ys ++ vs)) (row_number z o w xs ys)
+    (λ i h. rw (row_before w i m xs us e h, row_before w i m ys vs f h)) in
     let back : listed n (λ i. row_number z o w (xs ++ us) (ys ++ vs) (m + i)) ≡ listed n (row_number z o w us vs) =
-        listed_same n (λ i. row_number z o w (xs ++ us) (ys ++ vs) (m + i)) (row_number z o w us vs)
-        (λ i h. rw (row_after w i m xs us e, row_after w i m ys vs f)) in
+    listed_same n (λ i. row_number z o w (xs ++ us) (ys ++ vs) (m + i)) (row_number z o w us vs)
+    (λ i h. rw (row_after w i m xs us e, row_after w i m ys vs f)) in
     listed-append m n (row_number z o w (xs ++ us) (ys ++ vs)) ∙ rw (front, back)
 
 all_tail : {A : Type 0} (P : A → Type 0) (x : A) (xs : List A) → All P (x ∷ xs) → All P xs
@@ -55,12 +55,12 @@ parts_numbers column z o w (p ∷ ps) wide long also =
     let first : length (p.pieces.first column) ≡ p.rows * w = long 0 p (omega arith) ∙ ap (λ (n : ℕ). p.rows * n) width in
     let second : length (p.pieces.second column) ≡ p.rows * w = also 0 p (omega arith) ∙ ap (λ (n : ℕ). p.rows * n) width in
     let rest = parts_numbers column z o w ps
-        (all_tail (λ (h : Held). h.width column ≡ w) p ps wide)
-        (all_tail (λ (h : Held). length (h.pieces.first column) ≡ h.rows * h.width column) p ps long)
-        (all_tail (λ (h : Held). length (h.pieces.second column) ≡ h.rows * h.width column) p ps also) in
+    (all_tail (λ (h : Held). h.width column ≡ w) p ps wide)
+    (all_tail (λ (h : Held). length (h.pieces.first column) ≡ h.rows * h.width column) p ps long)
+    (all_tail (λ (h : Held). length (h.pieces.second column) ≡ h.rows * h.width column) p ps also) in
     rw (rest, width)
     (sym (numbers-append z o w p.rows (total (λ (h : Held). h.rows) ps) (p.pieces.first column) (p.pieces.second column)
-        (flat_map (λ (h : Held). h.pieces.first column) ps) (flat_map (λ (h : Held). h.pieces.second column) ps) first second))
+    (flat_map (λ (h : Held). h.pieces.first column) ps) (flat_map (λ (h : Held). h.pieces.second column) ps) first second))
 
 pub parts_scan : (column : ℕ) (z o : List ℕ) (parts : List Held) (whole : Held) → AreParts column parts whole
     → flat_map (λ (h : Held). scan_of h column z o) parts ≡ scan_of whole column z o
@@ -75,7 +75,7 @@ visits-append column start m n =
     let f : ℕ → Visit = λ c. record { column = column; chunk = start + c } in
     listed-append m n f
     ∙ ap (λ (l : List Visit). listed m f ++ l) (listed_same n (λ i. f (m + i)) (λ c. record { column = column; chunk = start + m + c })
-        (λ i h. let at : start + (m + i) ≡ start + m + i = omega arith in ap (λ (k : ℕ). record { column = column; chunk = k }) at))
+    (λ i h. let at : start + (m + i) ≡ start + m + i = omega arith in ap (λ (k : ℕ). record { column = column; chunk = k }) at))
 
 -- the chunks of some rows, and of those after them
 chunks-add : (rows more : ℕ) → (0 < more → rows ≡ 64 * chunks_of rows) → chunks_of (rows + more) ≡ chunks_of rows + chunks_of more

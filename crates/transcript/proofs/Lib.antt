@@ -7,3 +7,4 @@ pub mod Shifted
 pub mod Honest
 pub mod Small
 pub mod Lengths
+pub mod Held

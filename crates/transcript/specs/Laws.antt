@@ -1,5 +1,5 @@
 -- What a query opens where nothing was altered.
-use Rattle.std.specs.Prelude.{ℕ, pos, ◌≡◌, ◌<◌, ◌≤◌, ◌^◌, List, length, All}
+use Rattle.std.specs.Prelude.{ℕ, pos, ◌≡◌, ◌<◌, ◌≤◌, ◌^◌, List, length, map, All}
 use Rattle.ring128.specs.Ring.{times}
 use Rattle.wire_line.specs.declared.message.Message.{Message}
 use Rattle.table_schema.specs.declared.rows.Row.{Row}
@@ -14,7 +14,8 @@ use Rattle.transcript.specs.Setup.{Setup, Sizes, count_of}
 use Rattle.transcript.specs.Steps.{Step, bits, product, opening, IsStep, place_of}
 use Rattle.wire_line.specs.Messages.{IsHonest, message_at}
 use Rattle.transcript.specs.Transcript.{IsTranscript, opened_of}
-use Rattle.transcript.specs.Rows.{HoldRows}
+use Rattle.prg_chacha.specs.declared.seed.Seed.{Seed}
+use Rattle.transcript.specs.Rows.{HoldRows, pieces_over}
 
 -- a query over three servers that hold these rows, with the keys of this query and these weights
 pub record Asks (s : Setup) (query : Query) (weights : ℕ → ℕ → ℕ) (rows : List Row) : Type 0 where
@@ -57,3 +58,8 @@ LengthsAreSizes =
     (s : Setup) (ms : List Message) (run : ℕ) (step : Step) (k : ℕ) → run < 2 → IsStep (count_of s.sizes) step → k < 3 → IsTranscript s ms
     → let m = message_at ms (place_of (count_of s.sizes) run step k) in
     (length m.sent ≡ step_length s.sizes step) × (length m.received ≡ step_length s.sizes step)
+
+-- what the servers hold of rows that were split by seeds holds these rows, whatever the seeds
+abbrev pub PiecesHold : Type 0
+PiecesHold = (w : Widths) (entries : List (Row × Seed)) → All (λ (entry : Row × Seed). Holds w entry.0) entries
+    → HoldRows w (map (λ (entry : Row × Seed). entry.0) entries) (pieces_over w entries)

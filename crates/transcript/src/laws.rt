@@ -1,6 +1,6 @@
 //! Laws of the definitions, as functions without effect: the clause of each is the law.
 
-ghost use Rattle.transcript.specs.Laws.{RunsOpen, PairOpens, PlainIsSmall, LengthsAreSizes};
+ghost use Rattle.transcript.specs.Laws.{RunsOpen, PairOpens, PiecesHold, PlainIsSmall, LengthsAreSizes};
 ghost use Rattle.transcript.specs.Shifts.{ShiftedOpen};
 
 /// Where nothing was altered and the servers hold rows, a run opens its key times the plain answer.
@@ -28,4 +28,9 @@ pub fn plain_is_small()
 /// How many words a message of a step has rests on the number of rows alone, whatever was altered.
 pub fn lengths_are_sizes()
     ensures { LengthsAreSizes }
+{}
+
+/// Rows that were split among the servers by seeds are held by them, whatever the seeds.
+pub fn pieces_hold()
+    ensures { PiecesHold }
 {}
