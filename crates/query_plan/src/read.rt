@@ -11,6 +11,7 @@ use crate::query::{MOST_PREDICATES, NO_PREDICATE, Query, QueryFault};
 use table_schema::{Aggregate, Schema};
 use text_reading::{count_pieces, cut};
 
+// What the first piece asks for.
 #[tactic(auto, unfolding(crate::specs::Reading::aggregate_of))]
 fn aggregate(word: &[u8]) -> Option<Aggregate>
     ensures { result ≡ aggregate_of word.now }
@@ -24,6 +25,7 @@ fn aggregate(word: &[u8]) -> Option<Aggregate>
     }
 }
 
+// How many pieces are left.
 fn count_left(rest: Option<&[u8]>) -> usize
     ensures { result ≡ length (pieces_left 32 (option_copied rest.entry)) }
 {
@@ -33,9 +35,9 @@ fn count_left(rest: Option<&[u8]>) -> usize
     }
 }
 
-#[tactic(auto, using(crate::proofs::QueryLaws::no_aggregate, crate::proofs::QueryLaws::too_few, crate::proofs::QueryLaws::too_many, crate::proofs::QueryLaws::begins, crate::proofs::QueryLaws::good_predicate, crate::proofs::QueryLaws::bad_predicate, crate::proofs::QueryLaws::no_more, crate::proofs::QueryLaws::fewer_left, crate::proofs::Legal::suits_widths))]
 /// The query that a text describes: `count` or `sum`, then 1 to 4 predicates, cut at each space; or the first
 /// fault from the left. A query that is read is legal over the schema's widths. Costs no memory.
+#[tactic(auto, using(crate::proofs::QueryLaws::no_aggregate, crate::proofs::QueryLaws::too_few, crate::proofs::QueryLaws::too_many, crate::proofs::QueryLaws::begins, crate::proofs::QueryLaws::good_predicate, crate::proofs::QueryLaws::bad_predicate, crate::proofs::QueryLaws::no_more, crate::proofs::QueryLaws::fewer_left, crate::proofs::Legal::suits_widths))]
 pub fn read_query(schema: &Schema, text: &str) -> Result<Query, QueryFault>
     ensures exact { Reads (λ q. q) result (query_of schema.now text.now) }
     ensures suits { IfOk result (λ q. (w : Widths) → AreWidthsOf schema.now w → Suits w.columns w.bits q) }

@@ -1,46 +1,52 @@
-use crate::{QueryFault, QueryWhy, read_query};
+use crate::{Predicate, QueryFault, QueryWhy, read_query, shape_of};
 use std::test::Fail;
-use table_schema::{Kind, read_schema};
-
-fn fault(rt: &HostRuntime, text: &str) -> Result<Option<QueryFault>, Fail> {
-    let schema = read_schema(rt.alloc(), "host:2,load:4@100/10")
-        .ok()
-        .ok_or("a schema")?;
-    Ok(read_query(&schema, text).err())
-}
+use table_schema::{Aggregate, Kind, Part, read_schema};
 
 fn bad(index: u8, why: QueryWhy) -> Option<QueryFault> {
     Some(QueryFault::Predicate { index, why })
 }
 
+// The first fault of a text, in the order of the causes.
 #[test]
 fn faults(rt: HostRuntime) -> Result<(), Fail> {
-    assert_eq!(rt; fault(&rt, "count host=1")?, None);
-    assert_eq!(rt; fault(&rt, "max host=1")?, Some(QueryFault::Aggregate));
-    assert_eq!(rt; fault(&rt, "count")?, Some(QueryFault::Count { had: 0 }));
-    assert_eq!(rt;
-        fault(&rt, "count a b c d e")?,
-        Some(QueryFault::Count { had: 5 })
-    );
-    assert_eq!(rt; fault(&rt, "count ")?, bad(0, QueryWhy::Form));
-    assert_eq!(rt; fault(&rt, "count host")?, bad(0, QueryWhy::Form));
-    assert_eq!(rt; fault(&rt, "count host<3")?, bad(0, QueryWhy::Form));
-    assert_eq!(rt; fault(&rt, "count host==3")?, bad(0, QueryWhy::Form));
-    assert_eq!(rt; fault(&rt, "count host=1.3")?, bad(0, QueryWhy::Form));
-    assert_eq!(rt; fault(&rt, "count host=1...3")?, bad(0, QueryWhy::Form));
-    assert_eq!(rt; fault(&rt, "count =3")?, bad(0, QueryWhy::Form));
-    assert_eq!(rt; fault(&rt, "count cpu=1")?, bad(0, QueryWhy::Unknown));
-    assert_eq!(rt;
-        fault(&rt, "count host=1 host=2")?,
-        bad(1, QueryWhy::Repeated)
-    );
-    assert_eq!(rt; fault(&rt, "count host=4")?, bad(0, QueryWhy::Domain));
-    assert_eq!(rt; fault(&rt, "count host=3..1")?, bad(0, QueryWhy::Order));
-    assert_eq!(rt; fault(&rt, "count load=105..104")?, bad(0, QueryWhy::Order));
-    assert_eq!(rt; fault(&rt, "count load<=99")?, bad(0, QueryWhy::Domain));
+    let schema = read_schema(rt.alloc(), "host:2,load:4@100/10")
+        .ok()
+        .ok_or("a schema")?;
+    let none: Option<QueryFault> = None;
+    let table = [
+        ("count host=1", none),
+        ("sum host<=01 load=100..259", none),
+        ("", Some(QueryFault::Aggregate)),
+        ("max host=1", Some(QueryFault::Aggregate)),
+        (" count host=1", Some(QueryFault::Aggregate)),
+        ("count", Some(QueryFault::Count { had: 0 })),
+        ("count a b c d e", Some(QueryFault::Count { had: 5 })),
+        ("count ", bad(0, QueryWhy::Form)),
+        ("count host=1 ", bad(1, QueryWhy::Form)),
+        ("count host", bad(0, QueryWhy::Form)),
+        ("count host<3", bad(0, QueryWhy::Form)),
+        ("count host==3", bad(0, QueryWhy::Form)),
+        ("count host=1.3", bad(0, QueryWhy::Form)),
+        ("count host=1...3", bad(0, QueryWhy::Form)),
+        ("count host=1..", bad(0, QueryWhy::Form)),
+        ("count host<=1..2", bad(0, QueryWhy::Form)),
+        ("count =3", bad(0, QueryWhy::Form)),
+        ("count host=18446744073709551616", bad(0, QueryWhy::Form)),
+        ("count cpu=1", bad(0, QueryWhy::Unknown)),
+        ("count host=1 host=9", bad(1, QueryWhy::Repeated)),
+        ("count host=4", bad(0, QueryWhy::Domain)),
+        ("count load<=99", bad(0, QueryWhy::Domain)),
+        ("count host=9..1", bad(0, QueryWhy::Domain)),
+        ("count host=3..1", bad(0, QueryWhy::Order)),
+        ("count load=105..104", bad(0, QueryWhy::Order)),
+    ];
+    for (text, fault) in table {
+        assert_eq!(rt; read_query(&schema, text).err(), fault, "of {text}");
+    }
     Ok(())
 }
 
+// A query's predicates hold buckets, and the widths of the schema suit it.
 #[test]
 fn queries(rt: HostRuntime) -> Result<(), Fail> {
     let schema = read_schema(rt.alloc(), "host:2,load:4@100/10")
@@ -49,16 +55,35 @@ fn queries(rt: HostRuntime) -> Result<(), Fail> {
     let query = read_query(&schema, "sum load=119..141 host<=2")
         .ok()
         .ok_or("a query")?;
+    let load = Predicate {
+        column: 1,
+        kind: Kind::Interval,
+        low: 1,
+        high: 4,
+    };
+    let host = Predicate {
+        column: 0,
+        kind: Kind::AtMost,
+        low: 0,
+        high: 2,
+    };
+    let blank = Predicate {
+        column: 0,
+        kind: Kind::Point,
+        low: 0,
+        high: 0,
+    };
+    assert!(rt; query.aggregate == Aggregate::Sum);
     assert_eq!(rt; query.count, 2);
-    assert!(rt;
-        query.predicates[0].kind == Kind::Interval
-            && query.predicates[0].low == 1
-            && query.predicates[0].high == 4
-    );
-    assert!(rt;
-        query.predicates[1].kind == Kind::AtMost
-            && query.predicates[1].low == 0
-            && query.predicates[1].high == 2
-    );
+    assert_eq!(rt; query.predicates, [load, host, blank, blank]);
+    assert!(rt; query.suits(&schema.widths()));
+    let narrow = read_schema(rt.alloc(), "host:2").ok().ok_or("a schema")?;
+    assert!(rt; !query.suits(&narrow.widths()));
+    let part = |column, kind| Part { column, kind };
+    let shape = shape_of(&query);
+    assert_eq!(rt; (shape.aggregate, shape.count), (Aggregate::Sum, 2));
+    assert!(rt; shape.parts[0] == part(1, Kind::Interval));
+    assert!(rt; shape.parts[1] == part(0, Kind::AtMost));
+    assert!(rt; shape.parts[3] == part(0, Kind::Point));
     Ok(())
 }

@@ -1,3 +1,4 @@
 pub mod Chunks
+pub mod Parts
 pub mod Shelves
 pub mod Visits

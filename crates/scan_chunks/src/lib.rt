@@ -13,6 +13,7 @@
 #![tactic(auto)]
 
 mod column;
+pub mod laws;
 mod many;
 mod owned;
 mod read;
@@ -29,3 +30,6 @@ pub use scan::scan_one;
 pub use shelf::{Lent, Shelf};
 pub use tables::Tables;
 pub use visit::Visit;
+
+#[cfg(test)]
+mod tests;
