@@ -22,17 +22,6 @@ pub count_few : (q : Query) (rows : List Row) → count_of q rows ≤ length row
 count_few q [] = omega arith
 count_few q (row ∷ rows) = omega (arith, few q row, count_few q rows)
 
--- one row more
-pub count_more : (q : Query) (rows : List Row) (i : ℕ) (d : Row) (n share : ℕ) → i < length rows → length rows ≤ 65536 → n ≡ count_of q (take i rows)
-    → share ≡ point_at (predicate_at q 0).low 1 (get_or (get_or rows i d).buckets (predicate_at q 0).column 0)
-    → plus n share ≡ count_of q (take (i + 1) rows)
-count_more q rows i d n share lt small so_far is =
-    let next : count_of q (take (i + 1) rows) ≡ count_of q (take i rows) + count_of q (get_or rows i d ∷ []) =
-    ap (count_of q) (take_more rows i d lt) ∙ total-append (counts q) (take i rows) (get_or rows i d ∷ []) in
-    let one : share ≡ counts q (get_or rows i d) = is in
-    let most : count_of q (take i rows) ≤ 65536 = omega (arith, count_few q (take i rows), length-take i rows) in
-    omega (arith, next, one, so_far, most, few q (get_or rows i d))
-
 -- the first predicate of a legal query has a column
 pub first_column : (columns : ℕ) (bits : List ℕ) (q : Query) → Suits columns bits q → (predicate_at q 0).column < columns
 first_column columns bits q s =

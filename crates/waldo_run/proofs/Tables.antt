@@ -77,7 +77,7 @@ any_default (x ∷ xs) (suc i) d e h = any_default xs i d e (omega arith)
 
 -- ---- row by row
 
-length-entries_from : (master : Seed) (i : ℕ) (rows : List Row) → length (entries_from master i rows) ≡ length rows
+pub length-entries_from : (master : Seed) (i : ℕ) (rows : List Row) → length (entries_from master i rows) ≡ length rows
 length-entries_from master i [] = refl
 length-entries_from master i (row ∷ rows) = ap suc (length-entries_from master (i + 1) rows)
 

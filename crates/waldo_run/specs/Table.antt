@@ -1,8 +1,10 @@
 -- The rows at three servers.
-use Rattle.std.specs.Prelude.{◌≡◌, ℕ, ◌+◌, ◌%◌, ◌<◌, ◌≤◌, List, [], ◌∷◌, ◌++◌, length, get_or}
+use Rattle.std.specs.Prelude.{◌≡◌, ℕ, ◌+◌, ◌*◌, ◌%◌, ◌<◌, ◌≤◌, List, [], ◌∷◌, ◌++◌, length, get_or}
 use Rattle.prg_chacha.specs.declared.seed.Seed.{Seed}
 use Rattle.prg_chacha.specs.Prg.{derive_of}
 use Rattle.onehot_column.specs.Code.{width_of, cells_at}
+use Rattle.scan_chunks.specs.Shelf.{Held}
+use Rattle.scan_chunks.specs.declared.column.Column.{Column}
 use Rattle.transcript.specs.Rows.{cells_over}
 use Rattle.table_schema.specs.declared.rows.Row.{Row}
 use Rattle.table_schema.specs.declared.widths.Widths.{Widths}
@@ -37,3 +39,21 @@ pub record GrownAt (w : Widths) (first second : List ℕ) (column : ℕ) (old ne
 pub record Grown (w : Widths) (first second : List ℕ) (old new : List Cells) : Type 0 where
   pub count : length new ≡ length old
   pub each : (column : ℕ) (d : Cells) → column ≤ w.columns → GrownAt w first second column (get_or old column d) (get_or new column d)
+
+-- the cells of all columns of so many rows
+pub record AreWhole (w : Widths) (rows : ℕ) (columns : List Cells) : Type 0 where
+  pub count : length columns ≡ w.columns + 1
+  pub width : (column : ℕ) (d : Cells) → column ≤ w.columns → (get_or columns column d).width ≡ width_of w column
+  pub first : (column : ℕ) (d : Cells) → column ≤ w.columns → length (get_or columns column d).first.items ≡ rows * width_of w column
+  pub second : (column : ℕ) (d : Cells) → column ≤ w.columns → length (get_or columns column d).second.items ≡ rows * width_of w column
+
+abbrev pub column_from : Cells → Column
+column_from c = record { width = c.width; first = c.first.items; second = c.second.items }
+
+-- a shelf holds the pieces of these rows at server k
+pub record Keeps (w : Widths) (k : ℕ) (entries : List (Row × Seed)) (h : Held) : Type 0 where
+  pub rows : h.rows ≡ length entries
+  pub columns : h.columns ≡ w.columns
+  pub width : (column : ℕ) → column ≤ w.columns → h.width column ≡ width_of w column
+  pub first : (column : ℕ) → column ≤ w.columns → h.pieces.first column ≡ cells_over w k entries column
+  pub second : (column : ℕ) → column ≤ w.columns → h.pieces.second column ≡ cells_over w ((k + 1) % 3) entries column

@@ -49,7 +49,7 @@ fn answer_bytes(alloc: Global, ask: &Ask, bytes: &[u8]) -> Result<Reply, Memory>
         Err(fault) => return refused_rows(alloc, fault),
     };
     let seed = derive(&MASTER, 2, 0, 0);
-    let total = count(alloc, &ask.query, &widths, &seed, &rows)?;
+    let total = count(alloc, &ask.query, &widths, &MASTER, &seed, &rows)?;
     let line = Line::Answer {
         who: Who::Single(0),
         rows: rows.len() as u64,

@@ -1,12 +1,14 @@
 //! The rows at three servers: each row is split by a seed of its own, and each server keeps its pieces column by column.
-ghost use Rattle.std.specs.Prelude.{◌≡◌, ◌<◌, ◌≤◌, ◌+◌, ◌++◌, ℕ, [], All, IfOk, OnOk, length};
+ghost use Rattle.std.specs.Prelude.{◌≡◌, ◌<◌, ◌≤◌, ◌+◌, ◌++◌, ℕ, [], All, IfOk, OnOk, length, map};
 ghost use Rattle.onehot_column.specs.Piece.{HasWidths};
 ghost use Rattle.table_schema.specs.Widths.{Holds};
-ghost use Rattle.waldo_run.specs.Table.{AreCells, Grown, entries_of};
+ghost use Rattle.scan_chunks.specs.Columns.{held_of};
+ghost use Rattle.waldo_run.specs.Table.{AreCells, AreWhole, Grown, Keeps, column_from, entries_of};
 
 use onehot_column::{Piece, pieces};
 use prg_chacha::{Seed, derive};
-use ring128::Memory;
+use ring128::{Memory, Words};
+use scan_chunks::{Column, OwnedShelf, Shelf};
 use std::alloc::Global;
 use table_schema::{Row, Widths};
 
@@ -107,4 +109,74 @@ fn split_rows(
         append(&mut two, widths, &row_pieces.two)?;
     }
     Ok(AllCells { zero, one, two })
+}
+
+fn column_of(cells: Cells) -> Column
+    ensures { result ≡ column_from cells }
+{
+    let Cells {
+        width,
+        first,
+        second,
+    } = cells;
+    Column {
+        width,
+        first: Words::from_vec(first),
+        second: Words::from_vec(second),
+    }
+}
+
+fn columns_of(alloc: Global, cells: Vec<Cells>) -> Result<Vec<Column>, Memory>
+    ensures { IfOk result (λ columns. columns.items ≡ map column_from cells.items) }
+{
+    let mut columns = Vec::with_capacity(alloc, cells.len())?;
+    for one in cells {
+        columns.push(column_of(one))?;
+    }
+    Ok(columns)
+}
+
+// The shelf of the cells of so many rows.
+fn shelf_of(
+    alloc: Global,
+    widths: &Widths,
+    rows: u64,
+    cells: Vec<Cells>,
+) -> Result<OwnedShelf, Memory>
+    requires few { rows ≤ 65536 }
+    requires ready { AreWhole widths.now rows cells.items }
+    ensures { IfOk result (λ s. ⟦<OwnedShelf as Shelf>⟧.held s ≡ held_of rows 0 (map column_from cells.items)) }
+{
+    let columns = columns_of(alloc, cells)?;
+    Ok(OwnedShelf::new(alloc, rows, 0, columns))
+}
+
+/// The rows at the three servers.
+#[derive(Drop)]
+pub(crate) struct Table {
+    pub zero: OwnedShelf,
+    pub one: OwnedShelf,
+    pub two: OwnedShelf,
+}
+
+/// Splits the rows by their seeds, and puts at each server its pieces of them. The only error is want of memory.
+pub(crate) fn place(
+    alloc: Global,
+    widths: &Widths,
+    master: &Seed,
+    rows: &[Row],
+) -> Result<Table, Memory>
+    requires held { All (Holds widths.now) rows.now }
+    requires few { length rows.now ≤ 65536 }
+    ensures zero { IfOk result (λ t. Keeps widths.now 0 (entries_of master.now rows.now) (⟦<OwnedShelf as Shelf>⟧.held t.zero)) }
+    ensures one { IfOk result (λ t. Keeps widths.now 1 (entries_of master.now rows.now) (⟦<OwnedShelf as Shelf>⟧.held t.one)) }
+    ensures two { IfOk result (λ t. Keeps widths.now 2 (entries_of master.now rows.now) (⟦<OwnedShelf as Shelf>⟧.held t.two)) }
+{
+    let AllCells { zero, one, two } = split_rows(alloc, widths, master, rows)?;
+    let count = rows.len() as u64;
+    Ok(Table {
+        zero: shelf_of(alloc, widths, count, zero)?,
+        one: shelf_of(alloc, widths, count, one)?,
+        two: shelf_of(alloc, widths, count, two)?,
+    })
 }
