@@ -1,5 +1,5 @@
 -- The key message of each server: its words, and what a server reads from words.
-use Rattle.std.specs.Prelude.{ℕ, zero, suc, ◌+◌, ◌*◌, ◌%◌, List, [], ◌∷◌, ◌++◌, get_or, take, drop, slice_index, slice_index_or, sum_by}
+use Rattle.std.specs.Prelude.{ℕ, zero, suc, ◌≡◌, ◌≢◌, ◌<◌, ◌+◌, ◌*◌, ◌%◌, ⊤, List, [], ◌∷◌, ◌++◌, get_or, take, drop, slice_index, slice_index_or, sum_by}
 use Rattle.std.specs.List.{flat_map, range_with_len}
 use Rattle.prg_chacha.specs.Prg.{low_of, high_of, from_halves_of}
 use Rattle.prg_chacha.specs.declared.seed.Seed.{Seed}
@@ -10,6 +10,8 @@ use Rattle.table_schema.specs.declared.shapes.Part.{Part}
 use Rattle.table_schema.specs.declared.shapes.Shape.{Shape}
 use Rattle.query_plan.specs.declared.key.KeyPair.{KeyPair}
 use Rattle.query_plan.specs.declared.key.PredicateKey.{PredicateKey}
+use Rattle.query_plan.specs.declared.message.MessageFault.{MessageFault}
+use Rattle.query_plan.specs.declared.message.MessageFault.TheVariants.{Length, Memory}
 use Rattle.query_plan.specs.declared.query.Query.{Query}
 use Rattle.query_plan.specs.PredicateKeys.{key_for, key_of_words, length_of, table_of, words_of_key}
 use Rattle.query_plan.specs.Query.{predicate_at}
@@ -52,6 +54,15 @@ parts_of shape = take shape.count shape.parts
 -- how many words a key message has
 abbrev pub message_length : Shape → List ℕ → ℕ
 message_length shape bits = 4 + 2 * run_length bits (parts_of shape)
+
+-- a part on one of so many columns
+abbrev pub HasColumn : ℕ → Part → Type 0
+HasColumn columns part = part.column < columns
+
+-- when each fault comes, for a list of `had` words where a key message has `wanted`
+abbrev pub HasMessageFault : ℕ → ℕ → MessageFault → Type 0
+HasMessageFault had wanted (Length h w) = (h ≡ had) × (w ≡ wanted) × (had ≢ wanted)
+HasMessageFault had wanted Memory = ⊤
 
 -- the two keys of a part that a list of words begins with
 abbrev pub pair_read : List ℕ → Part → List ℕ → KeyPair
