@@ -8,6 +8,7 @@ use Rattle.ring128.specs.declared.party.Party.TheVariants.{Zero, One}
 use Rattle.table_schema.specs.declared.shapes.Kind.TheVariants.{Point}
 use Rattle.table_schema.specs.declared.shapes.Part.{Part}
 use Rattle.table_schema.specs.declared.shapes.Shape.{Shape}
+use Rattle.table_schema.specs.declared.widths.Widths.{Widths}
 use Rattle.query_plan.specs.declared.key.KeyPair.{KeyPair}
 use Rattle.query_plan.specs.declared.key.PredicateKey.{PredicateKey}
 use Rattle.query_plan.specs.declared.query.Query.{Query}
@@ -30,12 +31,22 @@ pair_words query bits seed k run j = words_of_key (key_at query bits seed Zero r
 abbrev pub run_words : Query → List ℕ → Seed → ℕ → ℕ → List ℕ
 run_words query bits seed k run = flat_map (pair_words query bits seed k run) (range_with_len 0 query.count)
 
--- the key message to server k: its seed of zero parts, the next server's, and its keys of both runs
-abbrev pub message_words : Query → List ℕ → Seed → ℕ → List ℕ
-message_words query bits seed k =
+-- the words of server k's seed of zero parts, and of the next server's
+abbrev pub seed_words : Seed → ℕ → List ℕ
+seed_words seed k =
     let own = zero_seed seed k in
     let next = zero_seed seed ((k + 1) % 3) in
-    low_of own ∷ high_of own ∷ low_of next ∷ high_of next ∷ (run_words query bits seed k 0 ++ run_words query bits seed k 1)
+    low_of own ∷ high_of own ∷ low_of next ∷ high_of next ∷ []
+
+-- the key message to server k: its seed of zero parts, the next server's, and its keys of both runs
+abbrev pub message_words : Query → List ℕ → Seed → ℕ → List ℕ
+message_words query bits seed k = seed_words seed k ++ (run_words query bits seed k 0 ++ run_words query bits seed k 1)
+
+-- what keys were made for
+pub record Asked : Type 0 where
+  pub query : Query
+  pub widths : Widths
+  pub seed : Seed
 
 -- how many words the key of a part has
 abbrev pub part_length : List ℕ → Part → ℕ
