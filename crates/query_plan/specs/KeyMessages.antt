@@ -1,5 +1,5 @@
 -- The key message of each server: its words, and what a server reads from words.
-use Rattle.std.specs.Prelude.{ℕ, zero, suc, ◌+◌, ◌*◌, ◌%◌, List, [], ◌∷◌, ◌++◌, get_or, take, drop, slice_index, slice_index_or, sum_by}
+use Rattle.std.specs.Prelude.{ℕ, zero, suc, ◌≡◌, ◌≢◌, ◌<◌, ◌+◌, ◌*◌, ◌%◌, ⊤, List, [], ◌∷◌, ◌++◌, get_or, take, drop, slice_index, slice_index_or, sum_by}
 use Rattle.std.specs.List.{flat_map, range_with_len}
 use Rattle.prg_chacha.specs.Prg.{low_of, high_of, from_halves_of}
 use Rattle.prg_chacha.specs.declared.seed.Seed.{Seed}
@@ -11,6 +11,8 @@ use Rattle.table_schema.specs.declared.shapes.Shape.{Shape}
 use Rattle.table_schema.specs.declared.widths.Widths.{Widths}
 use Rattle.query_plan.specs.declared.key.KeyPair.{KeyPair}
 use Rattle.query_plan.specs.declared.key.PredicateKey.{PredicateKey}
+use Rattle.query_plan.specs.declared.message.MessageFault.{MessageFault}
+use Rattle.query_plan.specs.declared.message.MessageFault.TheVariants.{Length, Memory}
 use Rattle.query_plan.specs.declared.query.Query.{Query}
 use Rattle.query_plan.specs.PredicateKeys.{key_for, key_of_words, length_of, table_of, words_of_key}
 use Rattle.query_plan.specs.Query.{predicate_at}
@@ -64,6 +66,15 @@ parts_of shape = take shape.count shape.parts
 abbrev pub message_length : Shape → List ℕ → ℕ
 message_length shape bits = 4 + 2 * run_length bits (parts_of shape)
 
+-- a part on one of so many columns
+abbrev pub HasColumn : ℕ → Part → Type 0
+HasColumn columns part = part.column < columns
+
+-- when each fault comes, for a list of `had` words where a key message has `wanted`
+abbrev pub HasMessageFault : ℕ → ℕ → MessageFault → Type 0
+HasMessageFault had wanted (Length h w) = (h ≡ had) × (w ≡ wanted) × (had ≢ wanted)
+HasMessageFault had wanted Memory = ⊤
+
 -- the two keys of a part that a list of words begins with
 abbrev pub pair_read : List ℕ → Part → List ℕ → KeyPair
 pair_read bits part ws =
@@ -98,8 +109,8 @@ keys_read shape bits ws =
 
 -- the keys of predicate j in a run
 abbrev pub pair_at : KeysRead → ℕ → ℕ → KeyPair
-pair_at keys zero j = slice_index keys.run0 j
-pair_at keys (suc run) j = slice_index keys.run1 j
+pair_at keys zero j = slice_index_or keys.run0 j (pair_read [] (record { column = 0; kind = Point }) [])
+pair_at keys (suc run) j = slice_index_or keys.run1 j (pair_read [] (record { column = 0; kind = Point }) [])
 
 -- the tables of the keys by run and predicate
 abbrev pub view_from : KeysRead → View
