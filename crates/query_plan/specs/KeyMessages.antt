@@ -1,5 +1,5 @@
 -- The key message of each server: its words, and what a server reads from words.
-use Rattle.std.specs.Prelude.{ℕ, zero, suc, ◌≡◌, ◌≢◌, ◌<◌, ◌+◌, ◌*◌, ◌%◌, ⊤, List, [], ◌∷◌, ◌++◌, get_or, take, drop, slice_index, slice_index_or, sum_by}
+use Rattle.std.specs.Prelude.{ℕ, zero, suc, ◌≡◌, ◌≢◌, ◌<◌, ◌+◌, ◌*◌, ◌%◌, ⊤, List, [], ◌∷◌, ◌++◌, get_or, take, drop, slice_index, sum_by}
 use Rattle.std.specs.List.{flat_map, range_with_len}
 use Rattle.prg_chacha.specs.Prg.{low_of, high_of, from_halves_of}
 use Rattle.prg_chacha.specs.declared.seed.Seed.{Seed}
@@ -66,6 +66,10 @@ parts_of shape = take shape.count shape.parts
 abbrev pub message_length : Shape → List ℕ → ℕ
 message_length shape bits = 4 + 2 * run_length bits (parts_of shape)
 
+-- part j of a shape
+abbrev pub part_at : Shape → ℕ → Part
+part_at shape j = get_or shape.parts j (record { column = 0; kind = Point })
+
 -- a part on one of so many columns
 abbrev pub HasColumn : ℕ → Part → Type 0
 HasColumn columns part = part.column < columns
@@ -107,10 +111,14 @@ keys_read shape bits ws =
       run1 = pairs_read bits parts (drop (4 + run_length bits parts) ws);
     }
 
+-- what stands where there are no keys
+abbrev pub no_pair : KeyPair
+no_pair = record { party0 = key_of_words Point 0 []; party1 = key_of_words Point 0 [] }
+
 -- the keys of predicate j in a run
 abbrev pub pair_at : KeysRead → ℕ → ℕ → KeyPair
-pair_at keys zero j = slice_index_or keys.run0 j (pair_read [] (record { column = 0; kind = Point }) [])
-pair_at keys (suc run) j = slice_index_or keys.run1 j (pair_read [] (record { column = 0; kind = Point }) [])
+pair_at keys zero j = get_or keys.run0 j no_pair
+pair_at keys (suc run) j = get_or keys.run1 j no_pair
 
 -- the tables of the keys by run and predicate
 abbrev pub view_from : KeysRead → View

@@ -23,4 +23,6 @@ pub use server_keys::ServerKeys;
 pub use weights::key_of;
 
 #[cfg(test)]
+mod message_tests;
+#[cfg(test)]
 mod tests;
