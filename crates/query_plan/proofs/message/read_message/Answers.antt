@@ -26,8 +26,8 @@ all_there columns shape there =
       let within : i < shape.count = omega (arith, h, length-take shape.count shape.parts) in
       subst (HasColumn columns) (sym (get_or-take shape.count shape.parts i none within)) (there i within))
 
-pub run_length-requires-clause-there : goal.run_length-requires-clause-there
-run_length-requires-clause-there c = all_there c.args.widths.now.columns c.args.shape.now c.requires.there
+pub run_length-run-requires-clause-there : goal.run_length-run-requires-clause-there
+run_length-run-requires-clause-there c = all_there c.args.widths.now.columns c.args.shape.now c.requires.there
 
 pub read_run-requires-clause-there : goal.read_run-requires-clause-there
 read_run-requires-clause-there c = all_there c.args.widths.now.columns c.args.shape.now c.requires.there
