@@ -7,11 +7,13 @@ use Rattle.prg_chacha.specs.declared.side.Side.{Side}
 use Rattle.prg_chacha.specs.Prg.{word, child_place, child_of, derive_of, eight_at, xor_of, low_of, high_of, from_halves_of, joined, words_of, stream_of}
 use Rattle.prg_chacha.proofs.Keys.{eight_items}
 use Rattle.prg_chacha.proofs.Seeds.{halves_same}
+use Rattle.ring128.specs.declared.party.Party.{Party}
+use Rattle.ring128.specs.declared.party.Party.TheVariants.{Zero, One}
 use Rattle.key_tree.specs.declared.level.Level.{Level}
 use Rattle.key_tree.specs.declared.node.Node.{Node}
 use Rattle.key_tree.specs.KeyWords.{level_words, level_read}
 use Rattle.key_tree.specs.Seeds.{IsSeed, DerivedAreSeeds}
-use Rattle.key_tree.specs.Tree.{level_between, other}
+use Rattle.key_tree.specs.Tree.{level_between, other, root_for}
 
 eight_small : (a b c d e f g h : ℕ)
     → a < 2 ^ 32 → b < 2 ^ 32 → c < 2 ^ 32 → d < 2 ^ 32 → e < 2 ^ 32 → f < 2 ^ 32 → g < 2 ^ 32 → h < 2 ^ 32
@@ -87,3 +89,7 @@ level_back l is = parts_back l.seed l.left l.right is
 pub between_is_seed : (keep : Side) (n m : Node) → IsSeed (level_between keep n m).seed
 unfolding level_between
 between_is_seed keep n m = xor_is_seed _ _ (child_is_seed n.seed (other keep)) (child_is_seed m.seed (other keep))
+
+pub root_is_seed : (party : Party) (r s : Seed) → IsSeed r → IsSeed s → IsSeed (root_for party r s)
+root_is_seed Zero r s p q = p
+root_is_seed One r s p q = q

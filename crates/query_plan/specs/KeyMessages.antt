@@ -117,13 +117,8 @@ no_pair = record { party0 = key_of_words Point 0 []; party1 = key_of_words Point
 
 -- the keys of predicate j in a run
 abbrev pub pair_at : KeysRead → ℕ → ℕ → KeyPair
-<<<<<<< HEAD
 pair_at keys zero j = get_or keys.run0 j no_pair
 pair_at keys (suc run) j = get_or keys.run1 j no_pair
-=======
-pair_at keys zero j = slice_index_or keys.run0 j (pair_read [] (record { column = 0; kind = Point }) [])
-pair_at keys (suc run) j = slice_index_or keys.run1 j (pair_read [] (record { column = 0; kind = Point }) [])
->>>>>>> origin/h-keys
 
 -- the tables of the keys by run and predicate
 abbrev pub view_from : KeysRead → View
