@@ -17,7 +17,7 @@ placed_if : (columns : ℕ) (bits : List ℕ) (q : Query) (i : ℕ) (b : Bool) �
     → MatchBool b (IsNext columns bits (take i q.predicates) (predicate_at q i)) (predicate_at q i ≡ no_predicate) → IsPlaced columns bits q i
 placed_if columns bits q i b e h = rw e h
 
-if_below : (columns : ℕ) (bits : List ℕ) (q : Query) (i : ℕ) → i < q.count → IsPlaced columns bits q i → IsNext columns bits (take i q.predicates) (predicate_at q i)
+pub if_below : (columns : ℕ) (bits : List ℕ) (q : Query) (i : ℕ) → i < q.count → IsPlaced columns bits q i → IsNext columns bits (take i q.predicates) (predicate_at q i)
 if_below columns bits q i lt h = rw (lt-ltb i q.count lt) at h
 
 if_past : (columns : ℕ) (bits : List ℕ) (q : Query) (i : ℕ) → q.count ≤ i → IsPlaced columns bits q i → predicate_at q i ≡ no_predicate

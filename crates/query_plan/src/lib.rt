@@ -1,10 +1,11 @@
-//! Queries, and the text that names them.
+//! Queries, the text that names them, and the keys by which servers answer them.
 #![tactic(auto)]
 
 mod draft;
 mod form;
 mod key;
 mod keys;
+pub mod laws;
 mod message;
 mod pair;
 mod predicate;
