@@ -1,3 +1,6 @@
+pub mod KeyMessages
+pub mod PredicateKeys
 pub mod Query
 pub mod Reading
+pub mod Seeds
 pub mod Views
