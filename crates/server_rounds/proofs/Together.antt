@@ -2,7 +2,8 @@
 use Rattle.std.proofs.Common.{◌≡◌, ◌∙◌, refl, sym, ap, subst, ℕ, zero, suc, ◌+◌, ◌*◌, ◌<◌, ◌≤◌, List, [], ◌∷◌, ◌++◌, length, take, drop, map, All, get_or, slice_set, arith, length-append}
 use Rattle.std.specs.List.{AllZip, flat_map}
 use Rattle.std.proofs.Math.Seq.{take-append_seam}
-use Rattle.std.proofs.lemmas.List.{get_or-map, length-map}
+use Rattle.std.proofs.lemmas.List.{get_or-map, length-map, take_all}
+use Rattle.scan_chunks.proofs.Shelves.{flat_map_more}
 use Rattle.std.proofs.lemmas.Slice.Zip.{AllZip-long}
 use Rattle.std.proofs.lemmas.List.Elements.{All-map, All-tail}
 use Rattle.list_facts.specs.Count.{total}
@@ -14,11 +15,12 @@ use Rattle.scan_chunks.specs.Laws.{AreParts, PartsScanAsWhole}
 use Rattle.scan_chunks.proofs.Parts.{parts_scan}
 use Rattle.table_schema.specs.declared.widths.Widths.{Widths}
 use Rattle.onehot_column.specs.Code.{width_of}
+use Rattle.onehot_column.proofs.CodeLaws.{width_last}
 use Rattle.server_rounds.specs.Shelves.{AreShelves, pieces_of}
 
 -- what holds of each shelf's rows holds of each shelf
 pub all_items : {A B : Type 0} (P : B → Type 0) (f : A → B) (xs : List A) → All P (map f xs) → All (λ x. P (f x)) xs
-all_items P f xs all = λ k d h. subst P (get_or-map f xs k d (f d) h) (all k (f d) (omega (arith, length-map f xs)))
+all_items P f xs all = λ k d h. subst P (get_or-map f xs k d (f d) h) (all k (f d) (omega (arith, length-map xs f)))
 
 -- each shelf holds what it held
 pub zip_held : {S : Type 0} (held : S → Held) (xs ys : List S) → AllZip (λ s t. held t ≡ held s) xs ys → map held ys ≡ map held xs
@@ -92,7 +94,7 @@ values_long column (h ∷ hs) wide long =
 -- what a shelf holds that is as it was
 pub held_at : {S : Type 0} (held : S → Held) (old now : List S) (i : ℕ) (d : S) → map held now ≡ map held old → i < length now → held (get_or now i d) ≡ held (get_or old i d)
 held_at held old now i d e h =
-    let k : i < length old = omega (arith, length-map held now, length-map held old, ap length e) in
+    let k : i < length old = omega (arith, length-map now held, length-map old held, ap length e) in
     sym (get_or-map held now i d (held d) h) ∙ ap (λ (l : List Held). get_or l i (held d)) e ∙ get_or-map held old i d (held d) k
 
 -- shelves that were lent, and hold what they held
@@ -108,4 +110,28 @@ lent_held held len old lent new size same z =
 pub shelf_at : {S : Type 0} (held : S → Held) (old now : List S) (i : ℕ) (d : S) → map held now ≡ map held old → i < length old → d ≡ get_or now i d
     → held d ≡ held (get_or old i d)
 shelf_at held old now i d e h is =
-    ap held is ∙ held_at held old now i d e (omega (arith, length-map held now, length-map held old, ap length e))
+    ap held is ∙ held_at held old now i d e (omega (arith, length-map now held, length-map old held, ap length e))
+
+-- a shelf at its place is replaced by one that holds the same
+pub set_at : {S : Type 0} (held : S → Held) (old now : List S) (i : ℕ) (d y : S) → map held now ≡ map held old → i < length old → held y ≡ held d → d ≡ get_or now i d
+    → map held (slice_set now i y) ≡ map held old
+set_at held old now i d y e h same is =
+    set_held held now i d y (omega (arith, length-map now held, length-map old held, ap length e)) (same ∙ ap held is) ∙ e
+
+-- one shelf's list more
+pub lists_more : {S : Type 0} (held : S → Held) (f : Held → List ℕ) (old : List S) (i : ℕ) (d : S) → i < length old → held d ≡ held (get_or old i d)
+    → flat_map f (take i (map held old)) ++ f (held d) ≡ flat_map f (take (i + 1) (map held old))
+lists_more held f old i d h is =
+    let at : held d ≡ get_or (map held old) i (held d) = is ∙ sym (get_or-map held old i d (held d) h) in
+    ap (λ (x : Held). flat_map f (take i (map held old)) ++ f x) at ∙ flat_map_more f (map held old) i (held d) (omega (arith, length-map old held))
+
+-- the lists of all shelves
+pub lists_all : {S : Type 0} (held : S → Held) (f : Held → List ℕ) (old : List S) (i : ℕ) → length old ≤ i → flat_map f (take i (map held old)) ≡ flat_map f (map held old)
+lists_all held f old i h = ap (flat_map f) (take_all i (map held old) (omega (arith, length-map old held)))
+
+-- one value a row of a server
+pub values_together : {S : Type 0} (held : S → Held) (widths : Widths) (rows : ℕ) (xs : List S) → AreShelves widths rows (map held xs) → All (λ s. IsShelf (held s)) xs
+    → length ((pieces_of (map held xs)).first widths.columns) ≡ rows
+values_together held widths rows xs are shelves =
+    let parts = are_parts widths rows (map held xs) widths.columns (omega arith) are (All-map IsShelf held xs shelves) in
+    values_long widths.columns (map held xs) (λ k d h. parts.wide k d h ∙ width_last widths) parts.long ∙ are.count

@@ -3,8 +3,12 @@
 
 mod carry;
 mod held;
+mod keys;
+mod part;
 mod plan;
+mod rounds;
 mod shelves;
+mod stand;
 mod way;
 
 pub use shelves::Servers;

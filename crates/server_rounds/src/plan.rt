@@ -1,5 +1,6 @@
 ghost use Rattle.std.specs.Prelude.{◌≡◌, ◌<◌, ◌≤◌, ◌+◌, ◌*◌, ◌^◌};
 ghost use Rattle.transcript.specs.Setup.{count_of, column_of};
+ghost use Rattle.transcript.specs.Steps.{bits, product, opening, counter_of};
 ghost use Rattle.server_rounds.specs.Plans.{AreLegal};
 
 use std::marker::Model;
@@ -88,14 +89,43 @@ impl Plan {
         self.widths.columns
     }
 
-    /// The first counter of the zero parts of a group.
-    pub(crate) fn counter(&self, run: u8, group: u8) -> u64
+    /// The first counter of the zero parts of the bits of predicate j.
+    pub(crate) fn bits_counter(&self, run: u8, j: u8) -> u64
         requires run { run < 2 }
-        requires group { group < 2 * count_of self.now }
-        ensures value { result ≡ (2 * count_of self.now * run + group) * 65536 }
+        requires j { j < count_of self.now }
+        ensures value { result ≡ counter_of (count_of self.now) run (bits j) }
         ensures small { result + 65536 < 2 ^ 64 }
     {
-        let before = if run == 0 { 0 } else { 2 * self.shape.count };
-        u64::from(before + group) * 65536
+        counter(self.shape.count, run, (2 * j).saturating_sub(1))
     }
+
+    /// The first counter of the zero parts of product j.
+    pub(crate) fn product_counter(&self, run: u8, j: u8) -> u64
+        requires run { run < 2 }
+        requires j { j < count_of self.now }
+        ensures value { result ≡ counter_of (count_of self.now) run (product j) }
+        ensures small { result + 65536 < 2 ^ 64 }
+    {
+        counter(self.shape.count, run, 2 * j)
+    }
+
+    /// The counter of the zero part of the opening.
+    pub(crate) fn opening_counter(&self, run: u8) -> u64
+        requires { run < 2 }
+        ensures { result ≡ counter_of (count_of self.now) run opening }
+    {
+        counter(self.shape.count, run, 2 * self.shape.count - 1)
+    }
+}
+
+// The first counter of a group, which is one of 2 * count in a run.
+fn counter(count: u8, run: u8, group: u8) -> u64
+    requires few { count ≤ 4 }
+    requires run { run < 2 }
+    requires group { group < 2 * count }
+    ensures value { result ≡ (2 * count * run + group) * 65536 }
+    ensures small { result + 65536 < 2 ^ 64 }
+{
+    let before = if run == 0 { 0 } else { 2 * count };
+    u64::from(before + group) * 65536
 }
