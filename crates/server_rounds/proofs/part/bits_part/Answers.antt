@@ -13,12 +13,12 @@ pub table-requires-2-clause-predicate : goal.table-requires-2-clause-predicate
 table-requires-2-clause-predicate g c = omega (arith, c.requires.keys.run0)
 
 pub scan_rows-requires-clause-zero : goal.scan_rows-requires-clause-zero
-scan_rows-requires-clause-zero g c =
+scan_rows-requires-clause-zero g c κs within =
     ap length (c.in_ok-zero.ensures.zero refl) ∙ c.requires.keys.party0 c.args.run c.args.j c.requires.j
     ∙ ap (λ (n : ℕ). width_of c.args.plan.now.widths n) (sym c.column-column.ensures.value)
 
 pub scan_rows-requires-clause-one : goal.scan_rows-requires-clause-one
-scan_rows-requires-clause-one g c =
+scan_rows-requires-clause-one g c κs within =
     ap length (c.in_ok-one.ensures.one refl) ∙ c.requires.keys.party1 c.args.run c.args.j c.requires.j
     ∙ ap (λ (n : ℕ). width_of c.args.plan.now.widths n) (sym c.column-column.ensures.value)
 
