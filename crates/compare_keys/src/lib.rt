@@ -24,7 +24,7 @@ pub use key::{CompareKey, generate, table, value};
 pub use key_tree::KeyFault;
 pub use level::CompareLevel;
 pub use tally::Tally;
-pub use words::{from_words, length, to_words};
+pub use words::{from_words, length, read_words, to_words};
 
 #[cfg(test)]
 mod tests;

@@ -29,6 +29,20 @@ pub fn to_words(alloc: Global, key: &IntervalKey) -> Result<Words, Memory>
     Ok(Words::from_vec(words))
 }
 
+/// The key of so many bits that words of the right length are, whatever they are: of each control word its
+/// two lowest bits count.
+pub fn read_words(alloc: Global, bits: u8, words: &[u128]) -> Result<IntervalKey, Memory>
+    requires few { bits ≤ 8 }
+    requires long { length words.now ≡ length_of bits }
+    ensures key { IfOk result (λ k. k ≡ key_of_words bits words.now) }
+    ensures bits { IfOk result (λ k. length k.upper.levels ≡ bits) }
+{
+    let (first, second) = words.split_at(words.len() / 2);
+    let upper = compare_keys::read_words(alloc, bits, first)?;
+    let lower = compare_keys::read_words(alloc, bits, second)?;
+    Ok(IntervalKey { upper, lower })
+}
+
 /// The key of so many bits that has these words. `Length` comes exactly where their number is not that of
 /// [`length`], then `Bits` exactly where a control word is above 3, with the first such level; the levels
 /// of the lower key are counted after those of the upper one. Every other list is a key, and

@@ -2,7 +2,7 @@
 use Rattle.std.proofs.Common.{◌≡◌, ℕ, suc, ◌+◌, ◌-◌, ◌*◌, ◌<◌, ◌≤◌, List, [], ◌∷◌, ◌++◌, length, get_or, take, drop, All, refl, sym, ap, subst, ◌∙◌, arith, append_assoc, length-append}
 use Rattle.std.specs.List.{flat_map}
 use Rattle.std.proofs.Math.Seq.{take-add, take-append_seam, drop-append-add, get_or-append_seam}
-use Rattle.std.proofs.lemmas.List.{flat_map_more, take_more, take_all, drop_more, drop_all, drop-drop, take-append-drop}
+use Rattle.std.proofs.lemmas.List.{flat_map_more, take_more, take_all, get_or-take, get_or-drop, drop_more, drop_all, drop-drop, take-append-drop}
 use Rattle.std.proofs.lemmas.List.Elements.{All-append, All-cons, All-nil, All-head, All-tail}
 use Rattle.list_facts.specs.Listed.{listed}
 use Rattle.list_facts.proofs.Listed.{length-listed, listed_more, listed-append, listed_same}
@@ -27,6 +27,10 @@ pub part_at : (w v width i : ℕ) (ws : List ℕ) → w ≡ width → v ≡ widt
 part_at w v width i ws e f =
     let n : 2 + w * i + v - (2 + w * i) ≡ width = omega arith in
     ap (λ k. take k (drop (2 + w * i) ws)) n ∙ ap (λ u. take width (drop (2 + u * i) ws)) e
+
+-- the control word within the words of a level
+pub control_within : (width : ℕ) (ws : List ℕ) (i : ℕ) → 2 < width → get_or (words_at width ws i) 2 0 ≡ get_or ws (2 + width * i + 2) 0
+control_within width ws i h = get_or-take width (drop (2 + width * i) ws) 2 0 h ∙ get_or-drop (2 + width * i) ws 2 0
 
 pub read_more : {L : Type 0} (read : List ℕ → L) (w : ℕ) (ws : List ℕ) (n : ℕ) (ls : List L) (l : L)
     → ls ≡ levels_read read w ws n → l ≡ read (words_at w ws n) → ls ++ l ∷ [] ≡ levels_read read w ws (n + 1)

@@ -54,12 +54,11 @@ pub trait KeyLevel: Copy {
         ensures pushed { OnOk result (to.new.items ≡ to.old.items ++ words self.now) }
         ensures undone { read (words self.now) ≡ self.now };
 
-    /// The level that has these words.
+    /// The level that has these words. Of the control word its two lowest bits count.
     fn read(from: &[u128]) -> Self
         requires width { length from.now ≡ WIDTH }
-        requires control { slice_index from.now 2 ≤ 3 }
         ensures level { result ≡ read from.now }
-        ensures undone { words result ≡ from.now };
+        ensures undone { slice_index from.now 2 ≤ 3 → words result ≡ from.now };
 
     ghost wide: { (3 ≤ WIDTH) × (WIDTH ≤ 4) };
 

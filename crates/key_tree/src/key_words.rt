@@ -34,6 +34,49 @@ pub fn to_words<L: KeyLevel>(alloc: Global, key: &TreeKey<L>) -> Result<Words, M
     Ok(Words::from_vec(words))
 }
 
+/// The key of so many bits that words of the right length are. Of each control word its two lowest bits
+/// count, and where none is above 3 the key has these words.
+pub fn read_words<L: KeyLevel>(
+    alloc: Global,
+    bits: u8,
+    words: &[u128],
+) -> Result<TreeKey<L>, Memory>
+    requires few { bits ≤ 8 }
+    requires long { length words.now ≡ length_of L.WIDTH bits }
+    ensures key { IfOk result (λ k. k ≡ key_read L.read L.WIDTH bits words.now) }
+    ensures bits { IfOk result (λ k. length k.levels ≡ bits) }
+    ensures undone { IfOk result (λ k. HasNoFault (length words.now) (length_of L.WIDTH bits) bits (control_at L.WIDTH words.now) → key_words L.words k ≡ words.now) }
+{
+    let mut levels = Vec::with_capacity(alloc, bits as usize)?;
+    for i in 0..bits {
+        let at = 2 + L::WIDTH * i as usize;
+        levels.push(L::read(&words[at..at + L::WIDTH]))?;
+    }
+    let root = Seed::from_halves(words[0], words[1]);
+    Ok(TreeKey::new(root, levels, words[words.len() - 1]))
+}
+
+// The fault of a list of words, if it has one.
+fn check_words<L: KeyLevel>(bits: u8, words: &[u128]) -> Result<(), KeyFault>
+    requires { bits ≤ 8 }
+    ensures good { IfOk result (λ _. HasNoFault (length words.now) (length_of L.WIDTH bits) bits (control_at L.WIDTH words.now)) }
+    ensures fault { IfErr result (HasFault (length words.now) (length_of L.WIDTH bits) bits (control_at L.WIDTH words.now)) }
+{
+    let wanted = length::<L>(bits);
+    if words.len() as u64 != wanted {
+        return Err(KeyFault::Length {
+            had: words.len() as u64,
+            wanted,
+        });
+    }
+    for i in 0..bits {
+        if words[2 + L::WIDTH * i as usize + 2] > 3 {
+            return Err(KeyFault::Bits { level: i });
+        }
+    }
+    Ok(())
+}
+
 /// The key of so many bits that has these words. Every list of the right length whose control words are
 /// at most 3 is one.
 pub fn from_words<L: KeyLevel>(
@@ -48,21 +91,7 @@ pub fn from_words<L: KeyLevel>(
     ensures good { IfOk result (λ k. HasNoFault (length words.now) (length_of L.WIDTH bits) bits (control_at L.WIDTH words.now)) }
     ensures fault { IfErr result (HasFault (length words.now) (length_of L.WIDTH bits) bits (control_at L.WIDTH words.now)) }
 {
-    let wanted = length::<L>(bits);
-    if words.len() as u64 != wanted {
-        return Err(KeyFault::Length {
-            had: words.len() as u64,
-            wanted,
-        });
-    }
-    let mut levels = Vec::with_capacity(alloc, bits as usize)?;
-    for i in 0..bits {
-        let at = 2 + L::WIDTH * i as usize;
-        if words[at + 2] > 3 {
-            return Err(KeyFault::Bits { level: i });
-        }
-        levels.push(L::read(&words[at..at + L::WIDTH]))?;
-    }
-    let root = Seed::from_halves(words[0], words[1]);
-    Ok(TreeKey::new(root, levels, words[words.len() - 1]))
+    check_words::<L>(bits, words)?;
+    let key = read_words(alloc, bits, words)?;
+    Ok(key)
 }

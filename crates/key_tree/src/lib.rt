@@ -30,7 +30,7 @@ mod tree_key;
 
 pub use fault::KeyFault;
 pub use key_level::{KeyLevel, descend, write_values};
-pub use key_words::{from_words, length, to_words};
+pub use key_words::{from_words, length, read_words, to_words};
 pub use leaf::{last_word, of_party, signed};
 pub use level::Level;
 pub use node::Node;

@@ -26,6 +26,17 @@ pub fn to_words(alloc: Global, key: &PointKey) -> Result<Words, Memory>
     key_tree::to_words(alloc, key)
 }
 
+/// The key of so many bits that words of the right length are, whatever they are: of each control word its
+/// two lowest bits count.
+pub fn read_words(alloc: Global, bits: u8, words: &[u128]) -> Result<PointKey, Memory>
+    requires few { bits ≤ 8 }
+    requires long { length words.now ≡ length_of bits }
+    ensures key { IfOk result (λ k. k ≡ key_of_words bits words.now) }
+    ensures bits { IfOk result (λ k. length k.levels ≡ bits) }
+{
+    key_tree::read_words(alloc, bits, words)
+}
+
 /// The key of so many bits that has these words. `Length` comes exactly where their number is not that of
 /// [`length`], then `Bits` exactly where a control word is above 3, with the first such level. Every
 /// other list is a key, and [`to_words`] gives it again.

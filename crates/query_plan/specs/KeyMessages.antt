@@ -1,5 +1,5 @@
 -- The key message of each server: its words, and what a server reads from words.
-use Rattle.std.specs.Prelude.{ℕ, zero, suc, ◌+◌, ◌*◌, ◌%◌, List, [], ◌∷◌, ◌++◌, get_or, take, drop, slice_index, slice_index_or, sum_by}
+use Rattle.std.specs.Prelude.{ℕ, zero, suc, ◌≡◌, ◌≢◌, ◌<◌, ◌+◌, ◌*◌, ◌%◌, ⊤, List, [], ◌∷◌, ◌++◌, get_or, take, drop, slice_index, sum_by}
 use Rattle.std.specs.List.{flat_map, range_with_len}
 use Rattle.prg_chacha.specs.Prg.{low_of, high_of, from_halves_of}
 use Rattle.prg_chacha.specs.declared.seed.Seed.{Seed}
@@ -8,8 +8,11 @@ use Rattle.ring128.specs.declared.party.Party.TheVariants.{Zero, One}
 use Rattle.table_schema.specs.declared.shapes.Kind.TheVariants.{Point}
 use Rattle.table_schema.specs.declared.shapes.Part.{Part}
 use Rattle.table_schema.specs.declared.shapes.Shape.{Shape}
+use Rattle.table_schema.specs.declared.widths.Widths.{Widths}
 use Rattle.query_plan.specs.declared.key.KeyPair.{KeyPair}
 use Rattle.query_plan.specs.declared.key.PredicateKey.{PredicateKey}
+use Rattle.query_plan.specs.declared.message.MessageFault.{MessageFault}
+use Rattle.query_plan.specs.declared.message.MessageFault.TheVariants.{Length, Memory}
 use Rattle.query_plan.specs.declared.query.Query.{Query}
 use Rattle.query_plan.specs.PredicateKeys.{key_for, key_of_words, length_of, table_of, words_of_key}
 use Rattle.query_plan.specs.Query.{predicate_at}
@@ -30,12 +33,22 @@ pair_words query bits seed k run j = words_of_key (key_at query bits seed Zero r
 abbrev pub run_words : Query → List ℕ → Seed → ℕ → ℕ → List ℕ
 run_words query bits seed k run = flat_map (pair_words query bits seed k run) (range_with_len 0 query.count)
 
--- the key message to server k: its seed of zero parts, the next server's, and its keys of both runs
-abbrev pub message_words : Query → List ℕ → Seed → ℕ → List ℕ
-message_words query bits seed k =
+-- the words of server k's seed of zero parts, and of the next server's
+abbrev pub seed_words : Seed → ℕ → List ℕ
+seed_words seed k =
     let own = zero_seed seed k in
     let next = zero_seed seed ((k + 1) % 3) in
-    low_of own ∷ high_of own ∷ low_of next ∷ high_of next ∷ (run_words query bits seed k 0 ++ run_words query bits seed k 1)
+    low_of own ∷ high_of own ∷ low_of next ∷ high_of next ∷ []
+
+-- the key message to server k: its seed of zero parts, the next server's, and its keys of both runs
+abbrev pub message_words : Query → List ℕ → Seed → ℕ → List ℕ
+message_words query bits seed k = seed_words seed k ++ (run_words query bits seed k 0 ++ run_words query bits seed k 1)
+
+-- what keys were made for
+pub record Asked : Type 0 where
+  pub query : Query
+  pub widths : Widths
+  pub seed : Seed
 
 -- how many words the key of a part has
 abbrev pub part_length : List ℕ → Part → ℕ
@@ -52,6 +65,15 @@ parts_of shape = take shape.count shape.parts
 -- how many words a key message has
 abbrev pub message_length : Shape → List ℕ → ℕ
 message_length shape bits = 4 + 2 * run_length bits (parts_of shape)
+
+-- a part on one of so many columns
+abbrev pub HasColumn : ℕ → Part → Type 0
+HasColumn columns part = part.column < columns
+
+-- when each fault comes, for a list of `had` words where a key message has `wanted`
+abbrev pub HasMessageFault : ℕ → ℕ → MessageFault → Type 0
+HasMessageFault had wanted (Length h w) = (h ≡ had) × (w ≡ wanted) × (had ≢ wanted)
+HasMessageFault had wanted Memory = ⊤
 
 -- the two keys of a part that a list of words begins with
 abbrev pub pair_read : List ℕ → Part → List ℕ → KeyPair
@@ -85,10 +107,14 @@ keys_read shape bits ws =
       run1 = pairs_read bits parts (drop (4 + run_length bits parts) ws);
     }
 
+-- what stands where there are no keys
+abbrev pub no_pair : KeyPair
+no_pair = record { party0 = key_of_words Point 0 []; party1 = key_of_words Point 0 [] }
+
 -- the keys of predicate j in a run
 abbrev pub pair_at : KeysRead → ℕ → ℕ → KeyPair
-pair_at keys zero j = slice_index keys.run0 j
-pair_at keys (suc run) j = slice_index keys.run1 j
+pair_at keys zero j = get_or keys.run0 j no_pair
+pair_at keys (suc run) j = get_or keys.run1 j no_pair
 
 -- the tables of the keys by run and predicate
 abbrev pub view_from : KeysRead → View

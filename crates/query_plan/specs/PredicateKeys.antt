@@ -3,6 +3,7 @@ use Rattle.std.specs.Prelude.{ℕ, ◌^◌, List, length}
 use Rattle.list_facts.specs.Listed.{listed}
 use Rattle.prg_chacha.specs.declared.seed.Seed.{Seed}
 use Rattle.ring128.specs.declared.party.Party.{Party}
+use Rattle.ring128.specs.declared.party.Party.TheVariants.{Zero, One}
 use Rattle.point_keys.specs.Points as points
 use Rattle.point_keys.specs.PointWords as point_words
 use Rattle.compare_keys.specs.Compares as compares
@@ -13,6 +14,7 @@ use Rattle.table_schema.specs.declared.shapes.Kind.{Kind}
 use Rattle.table_schema.specs.declared.shapes.Kind.TheVariants as kinds
 use Rattle.query_plan.specs.declared.key.PredicateKey.{PredicateKey}
 use Rattle.query_plan.specs.declared.key.PredicateKey.TheVariants as keys
+use Rattle.query_plan.specs.declared.key.KeyPair.{KeyPair}
 use Rattle.query_plan.specs.declared.query.Predicate.{Predicate}
 
 -- the key of a party, by kind, for the buckets from low to high of a column of so many bits, with a weight, from four roots:
@@ -60,3 +62,8 @@ value_of (keys.Interval k) = intervals.value_of k
 -- its values at all buckets, in order
 abbrev pub table_of : Party → PredicateKey → List ℕ
 table_of party k = listed (2 ^ bits_of k) (value_of k party)
+
+-- of two keys that of a party
+abbrev pub key_in : Party → KeyPair → PredicateKey
+key_in Zero pair = pair.party0
+key_in One pair = pair.party1

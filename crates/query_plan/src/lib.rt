@@ -1,15 +1,25 @@
 //! Queries, and the text that names them.
 #![tactic(auto)]
 
+mod draft;
 mod form;
 mod key;
+mod keys;
+mod message;
+mod pair;
 mod predicate;
 mod query;
 mod read;
+mod server_keys;
+mod weights;
 
-pub use key::{KeyPair, PredicateKey};
+pub use key::{KeyPair, PredicateKey, key_length};
+pub use keys::{Keys, make_keys};
+pub use message::{MessageFault, read_message};
 pub use query::{Predicate, Query, QueryFault, QueryWhy, shape_of};
 pub use read::read_query;
+pub use server_keys::ServerKeys;
+pub use weights::key_of;
 
 #[cfg(test)]
 mod tests;

@@ -1,3 +1,4 @@
+pub mod Agree
 pub mod Sums
 pub mod Steps
 pub mod Places

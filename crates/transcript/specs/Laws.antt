@@ -1,5 +1,6 @@
 -- What a query opens where nothing was altered.
 use Rattle.std.specs.Prelude.{ℕ, pos, ◌≡◌, ◌<◌, ◌≤◌, ◌^◌, List, length, map, All}
+use Rattle.scan_chunks.specs.Pieces.{Pieces}
 use Rattle.ring128.specs.Ring.{times}
 use Rattle.wire_line.specs.declared.message.Message.{Message}
 use Rattle.table_schema.specs.declared.rows.Row.{Row}
@@ -10,10 +11,10 @@ use Rattle.query_plan.specs.declared.query.Query.{Query}
 use Rattle.query_plan.specs.Query.{shaped, Suits}
 use Rattle.query_plan.specs.Views.{AreKeys, key_from}
 use Rattle.transcript.specs.Plain.{plain}
-use Rattle.transcript.specs.Setup.{Setup, Sizes, count_of}
+use Rattle.transcript.specs.Setup.{Setup, Sizes, column_of, count_of, with_pieces}
 use Rattle.transcript.specs.Steps.{Step, bits, product, opening, IsStep, place_of}
 use Rattle.wire_line.specs.Messages.{IsHonest, message_at}
-use Rattle.transcript.specs.Transcript.{IsTranscript, opened_of}
+use Rattle.transcript.specs.Transcript.{IsPart, IsTranscript, opened_of}
 use Rattle.prg_chacha.specs.declared.seed.Seed.{Seed}
 use Rattle.transcript.specs.Rows.{HoldRows, pieces_over}
 
@@ -63,3 +64,18 @@ LengthsAreSizes =
 abbrev pub PiecesHold : Type 0
 PiecesHold = (w : Widths) (entries : List (Row × Seed)) → All (λ (entry : Row × Seed). Holds w entry.0) entries
     → HoldRows w (map (λ (entry : Row × Seed). entry.0) entries) (pieces_over w entries)
+
+-- the predicates' columns are there
+abbrev pub HasColumns : Sizes → Type 0
+HasColumns z = (j : ℕ) → j < count_of z → column_of z j < z.widths.columns
+
+-- pieces that are the same at each column, the value's among them
+pub record SamePieces (columns : ℕ) (p q : ℕ → Pieces) : Type 0 where
+  pub first : (k column : ℕ) → k < 3 → column ≤ columns → (p k).first column ≡ (q k).first column
+  pub second : (k column : ℕ) → k < 3 → column ≤ columns → (p k).second column ≡ (q k).second column
+
+-- of the pieces just the columns that there are count for the messages
+abbrev pub ColumnsSuffice : Type 0
+ColumnsSuffice =
+    (s : Setup) (pieces : ℕ → Pieces) (ms : List Message) → HasColumns s.sizes → SamePieces s.sizes.widths.columns s.pieces pieces
+    → IsPart s ms → IsPart (with_pieces s pieces) ms

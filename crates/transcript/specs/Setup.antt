@@ -1,6 +1,10 @@
 -- What the messages of a query rest on.
 use Rattle.std.specs.Prelude.{ℕ, List, slice_index_or}
+use Rattle.prg_chacha.specs.declared.seed.Seed.{Seed}
+use Rattle.query_plan.specs.KeyMessages.{message_words, view_of}
+use Rattle.query_plan.specs.Query.{shaped}
 use Rattle.query_plan.specs.Views.{View}
+use Rattle.query_plan.specs.declared.query.Query.{Query}
 use Rattle.scan_chunks.specs.Pieces.{Pieces}
 use Rattle.table_schema.specs.declared.shapes.Part.{Part}
 use Rattle.table_schema.specs.declared.shapes.Kind.TheVariants.{Point}
@@ -28,3 +32,16 @@ pub record Setup : Type 0 where
   pub keys : ℕ → List ℕ
   pub read : List ℕ → View
   pub pieces : ℕ → Pieces
+
+-- a query with its seed over so many rows, of which the servers hold these pieces
+abbrev pub setup_for : Query → Widths → Seed → ℕ → (ℕ → Pieces) → Setup
+setup_for query w seed rows pieces = record {
+  sizes = record { rows = rows; widths = w; shape = shaped query };
+  keys = message_words query w.bits seed;
+  read = view_of (shaped query) w.bits;
+  pieces = pieces;
+}
+
+-- the same with other pieces
+abbrev pub with_pieces : Setup → (ℕ → Pieces) → Setup
+with_pieces s pieces = record { sizes = s.sizes; keys = s.keys; read = s.read; pieces = pieces }

@@ -1,6 +1,6 @@
 //! Laws of the definitions, as functions without effect: the clause of each is the law.
 
-ghost use Rattle.transcript.specs.Laws.{RunsOpen, PairOpens, PiecesHold, PlainIsSmall, LengthsAreSizes};
+ghost use Rattle.transcript.specs.Laws.{ColumnsSuffice, RunsOpen, PairOpens, PiecesHold, PlainIsSmall, LengthsAreSizes};
 ghost use Rattle.transcript.specs.Shifts.{ShiftedOpen};
 
 /// Where nothing was altered and the servers hold rows, a run opens its key times the plain answer.
@@ -33,4 +33,9 @@ pub fn lengths_are_sizes()
 /// Rows that were split among the servers by seeds are held by them, whatever the seeds.
 pub fn pieces_hold()
     ensures { PiecesHold }
+{}
+
+/// For the messages of a query just those pieces count that stand at the table's columns.
+pub fn columns_suffice()
+    ensures { ColumnsSuffice }
 {}

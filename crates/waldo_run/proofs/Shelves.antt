@@ -98,6 +98,7 @@ keeps w k rows entries cells e are =
     let d = any_cells cells (omega (arith, are.count)) in
     record {
       rows = e;
+      start = refl;
       columns = last_column w rows cells are.count;
       width = λ column le. let lt : column < length cells = omega (arith, are.count) in ap (λ (c : Column). c.width) (at cells d column lt) ∙ (are.each column d le).width;
       first = λ column le. let lt : column < length cells = omega (arith, are.count) in ap (λ (c : Column). c.first) (at cells d column lt) ∙ (are.each column d le).first;

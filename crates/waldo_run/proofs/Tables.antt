@@ -1,5 +1,5 @@
 -- The cells of all columns, row by row.
-use Rattle.std.proofs.Common.{◌≡◌, ◌≢◌, ◌∙◌, refl, sym, ap, subst, ℕ, zero, suc, ◌+◌, ◌-◌, ◌%◌, ◌<◌, ◌≤◌, ◌⊎◌, ⊎_elim, List, [], ◌∷◌, ◌++◌, length, get_or, set, take, arith, append_assoc, append-nil}
+use Rattle.std.proofs.Common.{◌≡◌, ◌≢◌, ◌∙◌, refl, sym, ap, subst, ℕ, zero, suc, ◌+◌, ◌-◌, ◌%◌, ◌<◌, ◌≤◌, ◌⊎◌, ⊎_elim, List, [], ◌∷◌, ◌++◌, length, get_or, map, set, take, arith, append_assoc, append-nil}
 use Rattle.std.proofs.lemmas.Bool.{cases_order}
 use Rattle.std.proofs.lemmas.List.{get_or-set_same, get_or-set_other, take_all}
 use Rattle.std.specs.List.{flat_map}
@@ -120,3 +120,8 @@ row_more w master k i rows d seed first second old new h is f s so_far grown = r
 
 pub all_entries : (master : Seed) (rows : List Row) (i : ℕ) → length rows ≤ i → take i (entries_of master rows) ≡ entries_of master rows
 all_entries master rows i h = take_all i (entries_of master rows) (omega (arith, length-entries_from master 0 rows))
+
+-- the rows of rows with seeds
+pub rows_back : (master : Seed) (i : ℕ) (rows : List Row) → map (λ (entry : Row × Seed). entry.0) (entries_from master i rows) ≡ rows
+rows_back master i [] = refl
+rows_back master i (row ∷ rows) = ap (λ (l : List Row). row ∷ l) (rows_back master (i + 1) rows)

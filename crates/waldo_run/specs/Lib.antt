@@ -1,5 +1,6 @@
-pub mod Counting
+pub mod Asking
 pub mod Replies
 pub mod Table
 pub mod Run
 pub mod Words
+pub mod Wires

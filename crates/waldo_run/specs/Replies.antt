@@ -11,7 +11,12 @@ use Rattle.report_lines.specs.declared.lines.Who.TheVariants.{Single}
 use Rattle.table_schema.specs.Widths.{largest_in}
 use Rattle.table_schema.specs.declared.rows.Row.{Row}
 use Rattle.table_schema.specs.declared.schema.Column.{Column}
-use Rattle.waldo_run.specs.Counting.{count_of}
+use Rattle.onehot_column.specs.Code.{word_of}
+use Rattle.server_rounds.specs.declared.opened.OpenedPair.{OpenedPair}
+use Rattle.transcript.specs.Plain.{plain}
+use Rattle.waldo_run.specs.Asking.{key_for}
+use Rattle.weighted_check.specs.Check.{checked}
+use Rattle.weighted_check.specs.declared.Altered.{Altered}
 use Rattle.waldo_run.specs.declared.words.Ask.{Ask}
 use Rattle.waldo_run.specs.declared.words.Command.{Command}
 use Rattle.waldo_run.specs.declared.words.Command.TheVariants as commands
@@ -47,18 +52,30 @@ row_refusal row.Memory = no_reply
 abbrev pub rows_in : List Column → List ℕ → Result (List Row) RowFault
 rows_in columns bytes = rows_of columns (largest_in (map (λ (c : Column). c.bits) columns)) (input_records bytes)
 
--- the reply of `ask` to the rows
-abbrev pub answered : Ask → Result (List Row) RowFault → Reply
-answered ask (Err fault) = row_refusal fault
-answered ask (Ok rows) = single 0 (lines.Answer (Single 0) (length rows) ask.query.aggregate (count_of ask.query rows))
+-- the reply of `ask` to the rows, of which there are so many: its answer, or the pair that the check refused
+abbrev pub reply_for : Ask → ℕ → Result ℕ Altered → Reply
+reply_for ask rows (Ok total) = single 0 (lines.Answer (Single 0) rows ask.query.aggregate total)
+reply_for ask rows (Err pair) = single 7 (lines.Altered (Single 0) rows pair.total pair.weighted)
+
+-- how a query is answered over rows: by the pair that it opened, or plainly
+abbrev pub checked_answer : OpenedPair → Ask → List Row → Reply
+checked_answer pair ask rows = reply_for ask (length rows) (checked pair.total pair.weighted (key_for ask))
+
+abbrev pub plain_answer : Ask → List Row → Reply
+plain_answer ask rows = reply_for ask (length rows) (Ok (word_of (plain ask.query rows)))
+
+-- the reply of `ask` to the rows of its input, or to their first fault
+abbrev pub answered : (Ask → List Row → Reply) → Ask → Result (List Row) RowFault → Reply
+answered answer ask (Err fault) = row_refusal fault
+answered answer ask (Ok rows) = answer ask rows
 
 -- the commands that read the input
 abbrev pub reads_input : Command → Bool
 reads_input (commands.Ask ask) = true
 
 -- the reply of a command that reads to all bytes of the input
-abbrev pub reply_to_input : Command → List ℕ → Reply
-reply_to_input (commands.Ask ask) bytes = answered ask (rows_in ask.schema bytes)
+abbrev pub reply_to_input : (Ask → List Row → Reply) → Command → List ℕ → Reply
+reply_to_input answer (commands.Ask ask) bytes = answered answer ask (rows_in ask.schema bytes)
 
 -- an input that the command refuses
 abbrev pub IsRefused : Result (List Row) RowFault → Type 0
@@ -72,13 +89,13 @@ RefusesInput (commands.Ask ask) bytes = IsRefused (rows_in ask.schema bytes)
 abbrev pub reply_unread : Command → Reply
 reply_unread (commands.Ask ask) = no_reply
 
--- The reply to the words, over what reading gave. The order of refusals is the order of these cases.
-abbrev pub reply_to : Result Command WordFault → Reading → Reply
-reply_to (Err fault) reading = refusal fault
-reply_to (Ok command) Untouched = reply_unread command
-reply_to (Ok command) Broken = single 3 lines.ReadFault
-reply_to (Ok command) Long = single 5 lines.TooLong
-reply_to (Ok command) (Whole bytes) = reply_to_input command bytes
+-- The reply to the words, over what reading gave, by how a query is answered. The order of refusals is the order of these cases.
+abbrev pub reply_to : (Ask → List Row → Reply) → Result Command WordFault → Reading → Reply
+reply_to answer (Err fault) reading = refusal fault
+reply_to answer (Ok command) Untouched = reply_unread command
+reply_to answer (Ok command) Broken = single 3 lines.ReadFault
+reply_to answer (Ok command) Long = single 5 lines.TooLong
+reply_to answer (Ok command) (Whole bytes) = reply_to_input answer command bytes
 
 -- the words are refused before any read, and just the commands that read do so
 abbrev pub Suits : Result Command WordFault → Reading → Type 0

@@ -53,7 +53,14 @@ column_from c = record { width = c.width; first = c.first.items; second = c.seco
 -- a shelf holds the pieces of these rows at server k
 pub record Keeps (w : Widths) (k : ℕ) (entries : List (Row × Seed)) (h : Held) : Type 0 where
   pub rows : h.rows ≡ length entries
+  pub start : h.start ≡ 0
   pub columns : h.columns ≡ w.columns
   pub width : (column : ℕ) → column ≤ w.columns → h.width column ≡ width_of w column
   pub first : (column : ℕ) → column ≤ w.columns → h.pieces.first column ≡ cells_over w k entries column
   pub second : (column : ℕ) → column ≤ w.columns → h.pieces.second column ≡ cells_over w ((k + 1) % 3) entries column
+
+-- a server has one shelf, of these rows
+pub record HasShelf (w : Widths) (k : ℕ) (entries : List (Row × Seed)) (shelves : List Held) : Type 0 where
+  pub shelf : Held
+  pub alone : shelves ≡ shelf ∷ []
+  pub keeps : Keeps w k entries shelf

@@ -1,5 +1,5 @@
 -- What the command words say.
-use Rattle.std.specs.Prelude.{ℕ, IsTrue, bytes_eq, if◌then◌else◌, Result, Ok, Err, List, [], ◌∷◌, codes}
+use Rattle.std.specs.Prelude.{ℕ, bytes_eq, if◌then◌else◌, Result, Ok, Err, List, [], ◌∷◌, codes}
 use Rattle.query_plan.specs.Query.{AreWidthsOf, Suits}
 use Rattle.query_plan.specs.Reading.{query_of}
 use Rattle.query_plan.specs.declared.query.Query.{Query}
@@ -8,7 +8,6 @@ use Rattle.table_schema.specs.Schema.{schema_of}
 use Rattle.table_schema.specs.declared.faults.SchemaFault.{SchemaFault}
 use Rattle.table_schema.specs.declared.schema.Column.{Column}
 use Rattle.table_schema.specs.declared.widths.Widths.{Widths}
-use Rattle.waldo_run.specs.Counting.{is_answered}
 use Rattle.waldo_run.specs.declared.words.Ask.{Ask}
 use Rattle.waldo_run.specs.declared.words.Command.{Command}
 use Rattle.waldo_run.specs.declared.words.Command.TheVariants as commands
@@ -22,7 +21,7 @@ after_query ask (word ∷ words) = Err (Word 4)
 
 abbrev pub with_query : List Column → List (List ℕ) → Result Query QueryFault → Result Command WordFault
 with_query columns words (Err why) = Err (Word 3)
-with_query columns words (Ok query) = if is_answered query then after_query (record { schema = columns; query = query }) words else Err (Word 3)
+with_query columns words (Ok query) = after_query (record { schema = columns; query = query }) words
 
 abbrev pub after_option : List Column → List (List ℕ) → Result Command WordFault
 after_option columns [] = Err (Word 2)
@@ -42,6 +41,6 @@ unfoldable pub command_of : List (List ℕ) → Result Command WordFault
 command_of [] = Err (Missing (codes "command"))
 command_of (word ∷ words) = if bytes_eq word (codes "ask") then after_command words else Err (Word 0)
 
--- the query of the command is one that is answered, and legal over the widths of its columns
+-- the query of the command is legal over the widths of its columns
 abbrev pub Suited : Command → Type 0
-Suited (commands.Ask ask) = IsTrue (is_answered ask.query) × ((w : Widths) → AreWidthsOf ask.schema w → Suits w.columns w.bits ask.query)
+Suited (commands.Ask ask) = (w : Widths) → AreWidthsOf ask.schema w → Suits w.columns w.bits ask.query

@@ -12,7 +12,7 @@
 //! ```
 #![tactic(auto)]
 
-mod counting;
+mod asking;
 mod reply;
 mod run;
 mod table;

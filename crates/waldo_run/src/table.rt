@@ -1,14 +1,15 @@
 //! The rows at three servers: each row is split by a seed of its own, and each server keeps its pieces column by column.
-ghost use Rattle.std.specs.Prelude.{◌≡◌, ◌<◌, ◌≤◌, ◌+◌, ◌++◌, ℕ, [], All, IfOk, OnOk, length, map};
+ghost use Rattle.std.specs.Prelude.{◌≡◌, ◌<◌, ◌≤◌, ◌+◌, ◌++◌, ◌∷◌, ℕ, [], All, IfOk, OnOk, length, map};
 ghost use Rattle.onehot_column.specs.Piece.{HasWidths};
 ghost use Rattle.table_schema.specs.Widths.{Holds};
 ghost use Rattle.scan_chunks.specs.Columns.{held_of};
-ghost use Rattle.waldo_run.specs.Table.{AreCells, AreWhole, Grown, Keeps, column_from, entries_of};
+ghost use Rattle.waldo_run.specs.Table.{AreCells, AreWhole, Grown, HasShelf, column_from, entries_of};
 
 use onehot_column::{Piece, pieces};
 use prg_chacha::{Seed, derive};
 use ring128::{Memory, Words};
 use scan_chunks::{Column, OwnedShelf, Shelf};
+use server_rounds::Servers;
 use std::alloc::Global;
 use table_schema::{Row, Widths};
 
@@ -136,27 +137,21 @@ fn columns_of(alloc: Global, cells: Vec<Cells>) -> Result<Vec<Column>, Memory>
     Ok(columns)
 }
 
-// The shelf of the cells of so many rows.
+// The one shelf of the cells of so many rows.
 fn shelf_of(
     alloc: Global,
     widths: &Widths,
     rows: u64,
     cells: Vec<Cells>,
-) -> Result<OwnedShelf, Memory>
+) -> Result<Vec<OwnedShelf>, Memory>
     requires few { rows ≤ 65536 }
     requires ready { AreWhole widths.now rows cells.items }
-    ensures { IfOk result (λ s. ⟦<OwnedShelf as Shelf>⟧.held s ≡ held_of rows 0 (map column_from cells.items)) }
+    ensures { IfOk result (λ s. map ⟦<OwnedShelf as Shelf>⟧.held s.items ≡ held_of rows 0 (map column_from cells.items) ∷ []) }
 {
     let columns = columns_of(alloc, cells)?;
-    Ok(OwnedShelf::new(alloc, rows, 0, columns))
-}
-
-/// The rows at the three servers.
-#[derive(Drop)]
-pub(crate) struct Table {
-    pub zero: OwnedShelf,
-    pub one: OwnedShelf,
-    pub two: OwnedShelf,
+    let mut shelves = Vec::with_capacity(alloc, 1)?;
+    shelves.push(OwnedShelf::new(alloc, rows, 0, columns))?;
+    Ok(shelves)
 }
 
 /// Splits the rows by their seeds, and puts at each server its pieces of them. The only error is want of memory.
@@ -165,16 +160,16 @@ pub(crate) fn place(
     widths: &Widths,
     master: &Seed,
     rows: &[Row],
-) -> Result<Table, Memory>
+) -> Result<Servers<OwnedShelf>, Memory>
     requires held { All (Holds widths.now) rows.now }
     requires few { length rows.now ≤ 65536 }
-    ensures zero { IfOk result (λ t. Keeps widths.now 0 (entries_of master.now rows.now) (⟦<OwnedShelf as Shelf>⟧.held t.zero)) }
-    ensures one { IfOk result (λ t. Keeps widths.now 1 (entries_of master.now rows.now) (⟦<OwnedShelf as Shelf>⟧.held t.one)) }
-    ensures two { IfOk result (λ t. Keeps widths.now 2 (entries_of master.now rows.now) (⟦<OwnedShelf as Shelf>⟧.held t.two)) }
+    ensures zero { IfOk result (λ t. HasShelf widths.now 0 (entries_of master.now rows.now) (map ⟦<OwnedShelf as Shelf>⟧.held t.zero.items)) }
+    ensures one { IfOk result (λ t. HasShelf widths.now 1 (entries_of master.now rows.now) (map ⟦<OwnedShelf as Shelf>⟧.held t.one.items)) }
+    ensures two { IfOk result (λ t. HasShelf widths.now 2 (entries_of master.now rows.now) (map ⟦<OwnedShelf as Shelf>⟧.held t.two.items)) }
 {
     let AllCells { zero, one, two } = split_rows(alloc, widths, master, rows)?;
     let count = rows.len() as u64;
-    Ok(Table {
+    Ok(Servers {
         zero: shelf_of(alloc, widths, count, zero)?,
         one: shelf_of(alloc, widths, count, one)?,
         two: shelf_of(alloc, widths, count, two)?,

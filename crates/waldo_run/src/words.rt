@@ -5,7 +5,6 @@ ghost use Rattle.waldo_run.specs.Words.{command_of, after_command, with_schema, 
 ghost use Rattle.waldo_run.specs.declared.words.Command.TheVariants as commands;
 ghost use Rattle.waldo_run.specs.declared.words.WordFault.TheVariants.{Memory, Missing};
 
-use crate::counting::is_built;
 use query_plan::{Query, read_query};
 use report_lines::NameText;
 use std::alloc::Global;
@@ -101,8 +100,7 @@ fn option_value(schema: Schema, words: &[String]) -> Result<Command, WordFault>
     match words {
         [] => Err(WordFault::Word { index: 2 }),
         [word, rest @ ..] => match read_query(&schema, word.as_str()) {
-            Ok(query) if is_built(&query) => last_words(Ask { schema, query }, rest),
-            Ok(_) => Err(WordFault::Word { index: 3 }),
+            Ok(query) => last_words(Ask { schema, query }, rest),
             Err(_) => Err(WordFault::Word { index: 3 }),
         },
     }

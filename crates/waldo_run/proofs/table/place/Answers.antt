@@ -1,6 +1,6 @@
 use Rattle.std.proofs.Common.{arith, ◌≡◌, sym, subst, length}
 use Rattle.scan_chunks.specs.Shelf.{Held}
-use Rattle.waldo_run.specs.Table.{AreWhole, Keeps, entries_of}
+use Rattle.waldo_run.specs.Table.{AreWhole, HasShelf, entries_of}
 use Rattle.waldo_run.proofs.Shelves.{are_whole, entries_held, keeps}
 use Rattle.waldo_run.proofs.Tables.{length-entries_from}
 use Rattle.waldo_run.proofs.table.place.Goals as goal
@@ -23,17 +23,26 @@ shelf_of-requires-3-clause-ready c =
 pub returns-clause-zero : goal.returns-clause-zero
 returns-clause-zero c =
     let w = c.args.widths.now in let entries = entries_of c.args.master.now c.args.rows.now in
-    subst (λ (h : Held). Keeps w 0 entries h) (sym c.in_ok-shelf_of.ensures)
-    (keeps w 0 (length c.args.rows.now) entries c.in_ok-zero.field-0.zero.items (sym (length-entries_from c.args.master.now 0 c.args.rows.now)) c.in_ok-zero.ensures.zero)
+    record {
+      shelf = _;
+      alone = c.in_ok-shelf_of.ensures;
+      keeps = keeps w 0 (length c.args.rows.now) entries c.in_ok-zero.field-0.zero.items (sym (length-entries_from c.args.master.now 0 c.args.rows.now)) c.in_ok-zero.ensures.zero;
+    }
 
 pub returns-clause-one : goal.returns-clause-one
 returns-clause-one c =
     let w = c.args.widths.now in let entries = entries_of c.args.master.now c.args.rows.now in
-    subst (λ (h : Held). Keeps w 1 entries h) (sym c.in_ok-shelf_of-2.ensures)
-    (keeps w 1 (length c.args.rows.now) entries c.in_ok-zero.field-0.one.items (sym (length-entries_from c.args.master.now 0 c.args.rows.now)) c.in_ok-zero.ensures.one)
+    record {
+      shelf = _;
+      alone = c.in_ok-shelf_of-2.ensures;
+      keeps = keeps w 1 (length c.args.rows.now) entries c.in_ok-zero.field-0.one.items (sym (length-entries_from c.args.master.now 0 c.args.rows.now)) c.in_ok-zero.ensures.one;
+    }
 
 pub returns-clause-two : goal.returns-clause-two
 returns-clause-two c =
     let w = c.args.widths.now in let entries = entries_of c.args.master.now c.args.rows.now in
-    subst (λ (h : Held). Keeps w 2 entries h) (sym c.in_ok-shelf_of-3.ensures)
-    (keeps w 2 (length c.args.rows.now) entries c.in_ok-zero.field-0.two.items (sym (length-entries_from c.args.master.now 0 c.args.rows.now)) c.in_ok-zero.ensures.two)
+    record {
+      shelf = _;
+      alone = c.in_ok-shelf_of-3.ensures;
+      keeps = keeps w 2 (length c.args.rows.now) entries c.in_ok-zero.field-0.two.items (sym (length-entries_from c.args.master.now 0 c.args.rows.now)) c.in_ok-zero.ensures.two;
+    }
