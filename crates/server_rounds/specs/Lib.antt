@@ -3,4 +3,3 @@ pub mod Rounds
 pub mod Shelves
 pub mod Plans
 pub mod Runs
-pub mod Stand

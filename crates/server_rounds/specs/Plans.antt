@@ -1,7 +1,8 @@
 -- What a run goes by: numbers within the limits, and keys for them.
-use Rattle.std.specs.Prelude.{ℕ, ◌≡◌, ◌<◌, ◌≤◌, length}
+use Rattle.std.specs.Prelude.{ℕ, ◌≡◌, ◌<◌, ◌≤◌, List, length}
 use Rattle.onehot_column.specs.Code.{width_of}
-use Rattle.query_plan.specs.KeyMessages.{KeysRead, view_from}
+use Rattle.query_plan.specs.KeyMessages.{Asked, KeysRead, message_words, view_from, view_of}
+use Rattle.query_plan.specs.Query.{shaped}
 use Rattle.query_plan.specs.Views.{View}
 use Rattle.transcript.specs.Setup.{Sizes, count_of, column_of}
 use Rattle.server_rounds.specs.declared.keys.ThreeKeys.{ThreeKeys}
@@ -29,3 +30,13 @@ pub record HaveTables (z : Sizes) (keys : ThreeKeys) : Type 0 where
 -- what each server read
 abbrev pub views_of : ThreeKeys → ℕ → View
 views_of keys = by_server (view_from keys.zero) (view_from keys.one) (view_from keys.two)
+
+-- of a query that keys were made for, over so many rows: its sizes, the key words for each server, and what a server reads from words
+abbrev pub sizes_for : Asked → ℕ → Sizes
+sizes_for asked rows = record { rows = rows; widths = asked.widths; shape = shaped asked.query }
+
+abbrev pub words_for : Asked → ℕ → List ℕ
+words_for asked = message_words asked.query asked.widths.bits asked.seed
+
+abbrev pub read_for : Asked → List ℕ → View
+read_for asked = view_of (shaped asked.query) asked.widths.bits

@@ -22,3 +22,7 @@ pieces_of shelves = record {
   first = λ column. flat_map (λ (h : Held). h.pieces.first column) shelves;
   second = λ column. flat_map (λ (h : Held). h.pieces.second column) shelves;
 }
+
+-- how many rows they have together
+abbrev pub rows_of : List Held → ℕ
+rows_of shelves = total (λ (h : Held). h.rows) shelves

@@ -1,4 +1,4 @@
-use crate::stand::ServerKeys;
+use query_plan::ServerKeys;
 
 /// The keys that each of the three servers read.
 #[derive(Drop)]

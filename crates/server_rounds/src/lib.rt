@@ -1,15 +1,22 @@
 //! Both runs of a query over three servers.
 #![tactic(auto)]
 
+mod bits;
 mod carry;
 mod held;
 mod keys;
+mod opened;
 mod part;
 mod plan;
+mod product;
+mod ready;
 mod rounds;
 mod shelves;
-mod stand;
 mod way;
 
+pub use bits::Bits;
+pub use opened::{Opened, OpenedPair};
+pub use product::Product;
+pub use ready::Ready;
 pub use shelves::Servers;
 pub use way::Way;

@@ -10,7 +10,7 @@ ghost use Rattle.server_rounds.specs.Shelves.{AreShelves, pieces_of};
 
 use crate::plan::Plan;
 use crate::shelves::{read_values, scan_rows};
-use crate::stand::ServerKeys;
+use query_plan::ServerKeys;
 use replicated_share::PairList;
 use ring128::{Memory, Party, Words, add};
 use scan_chunks::{Shelf, Tables};

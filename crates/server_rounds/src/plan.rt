@@ -1,8 +1,12 @@
-ghost use Rattle.std.specs.Prelude.{◌≡◌, ◌<◌, ◌≤◌, ◌+◌, ◌*◌, ◌^◌};
+ghost use Rattle.std.specs.Prelude.{◌≡◌, ◌<◌, ◌≤◌, ◌+◌, ◌*◌, ◌^◌, IfOk};
 ghost use Rattle.transcript.specs.Setup.{count_of, column_of};
 ghost use Rattle.transcript.specs.Steps.{bits, product, opening, counter_of};
-ghost use Rattle.server_rounds.specs.Plans.{AreLegal};
+ghost use Rattle.query_plan.specs.KeyMessages.{keys_read};
+ghost use Rattle.server_rounds.specs.Plans.{AreLegal, HasTables};
 
+use query_plan::{ServerKeys, read_message};
+use ring128::{Memory, Words};
+use std::alloc::Global;
 use std::marker::Model;
 use table_schema::{Aggregate, Shape, Widths};
 
@@ -46,6 +50,17 @@ impl Plan {
             rows: self.rows,
             widths: self.widths,
             shape: self.shape,
+        }
+    }
+
+    /// What a server reads from the words that it received. The only error is want of memory.
+    pub(crate) fn read_keys(&self, alloc: Global, words: &Words) -> Result<ServerKeys, Memory>
+        ensures keys { IfOk result (λ k. k ≡ keys_read self.now.shape self.now.widths.bits words.now) }
+        ensures tables { IfOk result (HasTables self.now) }
+    {
+        match read_message(alloc, &self.shape, &self.widths, words.as_slice()) {
+            Ok(keys) => Ok(keys),
+            Err(_) => Err(Memory),
         }
     }
 
