@@ -1,7 +1,7 @@
 -- Three messages, or fewer.
-use Rattle.std.proofs.Common.{◌≡◌, ℕ, zero, suc, ◌<◌, List, [], ◌∷◌, length, refl, sym, ◌∙◌, arith}
+use Rattle.std.proofs.Common.{◌≡◌, ℕ, zero, suc, ◌<◌, List, [], ◌∷◌, ◌++◌, length, Option, Some, None, MatchOption, refl, sym, ap, subst, ◌∙◌, arith, append-nil}
 use Rattle.wire_line.specs.declared.message.Message.{Message}
-use Rattle.wire_line.specs.Messages.{message_of, message_at}
+use Rattle.wire_line.specs.Messages.{message_of, message_at, Went}
 use Rattle.transcript.specs.Transcript.{Fits}
 use Rattle.transcript.specs.Steps.{after}
 use Rattle.server_rounds.specs.Groups.{by_server, from_of, to_of, first_of, second_of, Pairs, IsGroup, Received, AreReshared}
@@ -52,7 +52,7 @@ regroup way f g ms group e = record {
       let at = group.fits k h in record { from = at.from; to = at.to; words = at.words ∙ e k b; long = at.long };
 }
 
-pub three_same : (f g : ℕ → List ℕ) → f 0 ≡ g 0 → f 1 ≡ g 1 → f 2 ≡ g 2 → (k : ℕ) → k < 3 → f k ≡ g k
+pub three_same : {T : Type 0} (f g : ℕ → T) → f 0 ≡ g 0 → f 1 ≡ g 1 → f 2 ≡ g 2 → (k : ℕ) → k < 3 → f k ≡ g k
 three_same f g a b c zero h = a
 three_same f g a b c (suc zero) h = b
 three_same f g a b c (suc (suc zero)) h = c
@@ -70,3 +70,23 @@ reshared pairs ms group got e0 f0 e1 f1 e2 f2 = record {
       (e2 ∙ sym (group.fits 2 (omega (arith, got.full))).words);
   second = three_same (second_of pairs) (λ k. (message_at ms (after k)).received) (f0 ∙ sym got.at1) (f1 ∙ sym got.at2) (f2 ∙ sym got.at0);
 }
+
+-- where there is no earlier product
+pub match_none : {A : Type 0} (o : Option A) (P : Type 0) (Q : A → Type 0) → o ≡ None → P → MatchOption o P Q
+match_none None P Q e p = p
+match_none (Some x) P Q e p = absurd cc
+
+pub none_matched : {A : Type 0} (o : Option A) (P : Type 0) (Q : A → Type 0) → o ≡ None → MatchOption o P Q → P
+none_matched None P Q e p = p
+none_matched (Some x) P Q e p = absurd cc
+
+-- where there is one
+pub some_matched : {A : Type 0} (o : Option A) (x : A) (P : Type 0) (Q : A → Type 0) → o ≡ Some x → MatchOption o P Q → Q x
+some_matched None x P Q e p = absurd cc
+some_matched (Some y) x P Q e p = let same : y ≡ x = cc in subst Q same p
+
+-- no messages more
+pub went_just : {S : Type 0} (told : S → Option (List Message)) (alterations : S → ℕ) (passes : S → List Message → S → Type 0) (s t : S) (ms ns : List Message)
+    → ns ≡ [] → Went told alterations passes s (ms ++ ns) t → Went told alterations passes s ms t
+went_just told alterations passes s t ms ns none went =
+    subst (λ (l : List Message). Went told alterations passes s l t) (ap (λ (l : List Message). ms ++ l) none ∙ append-nil ms) went

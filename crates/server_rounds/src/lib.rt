@@ -11,6 +11,7 @@ mod plan;
 mod product;
 mod ready;
 mod rounds;
+mod run;
 mod shelves;
 mod way;
 
@@ -18,5 +19,6 @@ pub use bits::Bits;
 pub use opened::{Opened, OpenedPair};
 pub use product::Product;
 pub use ready::Ready;
+pub use run::both_runs;
 pub use shelves::Servers;
 pub use way::Way;
