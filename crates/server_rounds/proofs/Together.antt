@@ -135,3 +135,7 @@ pub values_together : {S : Type 0} (held : S → Held) (widths : Widths) (rows :
 values_together held widths rows xs are shelves =
     let parts = are_parts widths rows (map held xs) widths.columns (omega arith) are (All-map IsShelf held xs shelves) in
     values_long widths.columns (map held xs) (λ k d h. parts.wide k d h ∙ width_last widths) parts.long ∙ are.count
+
+-- rows that were counted in a list that is lent
+pub counted : {S : Type 0} (held : S → Held) (xs lent : List S) (n : ℕ) → n ≡ total (λ s. (held s).rows) lent → lent ≡ xs → n ≡ total (λ (h : Held). h.rows) (map held xs)
+counted held xs lent n e same = e ∙ ap (total (λ s. (held s).rows)) same ∙ sym (total-map (λ (h : Held). h.rows) held xs)

@@ -23,7 +23,45 @@ returns-in_err-bits-clause-messages g c =
     )
 
 pub returns-in_err-product-clause-messages : goal.returns-in_err-product-clause-messages
-returns-in_err-product-clause-messages g c = ?
+returns-in_err-product-clause-messages g c =
+    let b = c.in_ok-bits.ensures.messages in
+    let p = c.in_err-product.ensures.messages in
+    let bits = c.in_ok-bits.bits in
+    let group = rw (c.in_ok-bits.ensures.plan, c.in_ok-bits.ensures.run, c.in_ok-bits.ensures.j) at (some_matched bits.chain c.args.chain.chain _ _ c.in_ok-bits.ensures.chain p.2) in (
+      b.0 ++ p.0,
+      went_both g.W.Wire.told g.W.Wire.alterations g.W.Wire.passes g.met.W.Wire.both_pass _ _ _ b.0 p.0 b.1 p.1,
+      (
+        record {
+          bit_messages = b.0;
+          product_messages = p.0;
+          both = refl;
+          held = bits.bits;
+          bits = b.2;
+          reshared = λ h. b.3;
+          products = group;
+        },
+        search rules,
+      ),
+    )
 
 pub returns-clause-messages : goal.returns-clause-messages
-returns-clause-messages g c = ?
+returns-clause-messages g c =
+    let b = c.in_ok-bits.ensures.messages in
+    let p = c.in_ok-product.ensures.messages in
+    let bits = c.in_ok-bits.bits in
+    let group = rw (c.in_ok-bits.ensures.plan, c.in_ok-bits.ensures.run, c.in_ok-bits.ensures.j) at (some_matched bits.chain c.args.chain.chain _ _ c.in_ok-bits.ensures.chain p.2) in (
+      b.0 ++ p.0,
+      went_both g.W.Wire.told g.W.Wire.alterations g.W.Wire.passes g.met.W.Wire.both_pass _ _ _ b.0 p.0 b.1 p.1,
+      (
+        record {
+          bit_messages = b.0;
+          product_messages = p.0;
+          both = refl;
+          held = bits.bits;
+          bits = b.2;
+          reshared = λ h. b.3;
+          products = group;
+        },
+        some_matched bits.chain c.args.chain.chain _ _ c.in_ok-bits.ensures.chain p.3,
+      ),
+    )

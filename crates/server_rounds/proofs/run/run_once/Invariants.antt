@@ -7,8 +7,8 @@ use Rattle.server_rounds.specs.Shelves.{pieces_of}
 use Rattle.server_rounds.proofs.Runs.{IsSoFar}
 use Rattle.server_rounds.proofs.run.run_once.Given as goal
 
-abbrev pub invariant-loop-_j : goal.invariant-loop-_j
-invariant-loop-_j g l =
+abbrev pub invariant-loop-j : goal.invariant-loop-j
+invariant-loop-j g l =
     let held = g.S.Shelf.held in record {
       zero : map held l.shelves.zero.items ≡ map held l.fn.shelves.zero.items;
       one : map held l.shelves.one.items ≡ map held l.fn.shelves.one.items;
