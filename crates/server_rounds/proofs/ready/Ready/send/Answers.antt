@@ -1,0 +1,60 @@
+use Rattle.std.proofs.Common.{◌≡◌, ◌∙◌, ap, sym, [], refl, rules}
+use Rattle.wire_line.specs.Carried.{went_none}
+use Rattle.wire_line.specs.Messages.{message_at}
+use Rattle.query_plan.specs.KeyMessages.{view_from, view_of}
+use Rattle.transcript.specs.Setup.{Sizes}
+use Rattle.server_rounds.specs.Plans.{read_for, sizes_for, views_of}
+use Rattle.server_rounds.proofs.Messages.{group_none, regroup, three_same}
+use Rattle.server_rounds.proofs.Tables.{legal_query}
+use Rattle.server_rounds.proofs.ready.Ready.send.Goals as goal
+
+pub new-plan-requires : goal.new-plan-requires
+new-plan-requires g c = rw (c.widths.ensures, c.shape.ensures.shape) (legal_query _ _ _ c.requires c.shape.ensures.suits)
+
+pub returns-in_err-zero-clause-messages : goal.returns-in_err-zero-clause-messages
+returns-in_err-zero-clause-messages g c =
+    ([], went_none g.W.Wire.told g.W.Wire.alterations g.W.Wire.passes _ _ refl refl (g.met.W.Wire.none_passes _), group_none _ _, search rules)
+
+pub returns-in_err-one-clause-messages : goal.returns-in_err-one-clause-messages
+returns-in_err-one-clause-messages g c =
+    ([], went_none g.W.Wire.told g.W.Wire.alterations g.W.Wire.passes _ _ refl refl (g.met.W.Wire.none_passes _), group_none _ _, search rules)
+
+pub returns-in_err-two-clause-messages : goal.returns-in_err-two-clause-messages
+returns-in_err-two-clause-messages g c =
+    ([], went_none g.W.Wire.told g.W.Wire.alterations g.W.Wire.passes _ _ refl refl (g.met.W.Wire.none_passes _), group_none _ _, search rules)
+
+pub returns-in_err-got-clause-messages : goal.returns-in_err-got-clause-messages
+returns-in_err-got-clause-messages g c =
+    let h = c.in_err-got.ensures.messages in
+    (h.0, h.1, regroup _ _ _ h.0 h.2 (three_same _ _ c.in_ok-zero.ensures c.in_ok-one.ensures c.in_ok-two.ensures), search rules)
+
+pub returns-in_err-zero_read-clause-messages : goal.returns-in_err-zero_read-clause-messages
+returns-in_err-zero_read-clause-messages g c =
+    let h = c.in_ok-got.ensures.messages in
+    (h.0, h.1, regroup _ _ _ h.0 h.2 (three_same _ _ c.in_ok-zero.ensures c.in_ok-one.ensures c.in_ok-two.ensures), search rules)
+
+pub returns-in_err-one_read-clause-messages : goal.returns-in_err-one_read-clause-messages
+returns-in_err-one_read-clause-messages g c =
+    let h = c.in_ok-got.ensures.messages in
+    (h.0, h.1, regroup _ _ _ h.0 h.2 (three_same _ _ c.in_ok-zero.ensures c.in_ok-one.ensures c.in_ok-two.ensures), search rules)
+
+pub returns-in_err-two_read-clause-messages : goal.returns-in_err-two_read-clause-messages
+returns-in_err-two_read-clause-messages g c =
+    let h = c.in_ok-got.ensures.messages in
+    (h.0, h.1, regroup _ _ _ h.0 h.2 (three_same _ _ c.in_ok-zero.ensures c.in_ok-one.ensures c.in_ok-two.ensures), search rules)
+
+pub returns-clause-messages : goal.returns-clause-messages
+returns-clause-messages g c =
+    let h = c.in_ok-got.ensures.messages in
+    let asked = c.args.keys.now in
+    let got = c.in_ok-got.got in
+    let same : c.new-plan.result ≡ sizes_for asked c.args.rows = c.new-plan.ensures ∙ rw (c.widths.ensures, c.shape.ensures.shape) in
+    let a0 = ap view_from c.in_ok-zero_read.ensures.keys ∙ ap (λ (z : Sizes). view_of z.shape z.widths.bits got.zero) same ∙ ap (read_for asked) (sym h.3.at0) in
+    let a1 = ap view_from c.in_ok-one_read.ensures.keys ∙ ap (λ (z : Sizes). view_of z.shape z.widths.bits got.one) same ∙ ap (read_for asked) (sym h.3.at1) in
+    let a2 = ap view_from c.in_ok-two_read.ensures.keys ∙ ap (λ (z : Sizes). view_of z.shape z.widths.bits got.two) same ∙ ap (read_for asked) (sym h.3.at2) in
+    (
+      h.0,
+      h.1,
+      regroup _ _ _ h.0 h.2 (three_same _ _ c.in_ok-zero.ensures c.in_ok-one.ensures c.in_ok-two.ensures),
+      record { full = h.3.full; seen = three_same _ (λ k. read_for asked (message_at h.0 k).received) a0 a1 a2 },
+    )

@@ -1,0 +1,21 @@
+use Rattle.std.proofs.Common.{◌++◌, rules}
+use Rattle.wire_line.specs.Carried.{went_both}
+use Rattle.server_rounds.proofs.Messages.{none_matched, went_just}
+use Rattle.server_rounds.proofs.run.first_predicate.Goals as goal
+
+pub returns-in_err-product-clause-messages : goal.returns-in_err-product-clause-messages
+returns-in_err-product-clause-messages g c =
+    let b = c.in_ok-bits.ensures.messages in
+    let p = c.in_err-product.ensures.messages in
+    let none = none_matched _ _ _ c.in_ok-bits.ensures.chain p.2 in
+    let went = went_both g.W.Wire.told g.W.Wire.alterations g.W.Wire.passes g.met.W.Wire.both_pass _ _ _ b.0 p.0 b.1 p.1 in
+    (b.0, went_just g.W.Wire.told g.W.Wire.alterations g.W.Wire.passes _ _ b.0 p.0 none went, b.2, search rules)
+
+pub returns-clause-messages : goal.returns-clause-messages
+returns-clause-messages g c =
+    let b = c.in_ok-bits.ensures.messages in
+    let p = c.in_ok-product.ensures.messages in
+    let none = none_matched _ _ _ c.in_ok-bits.ensures.chain p.2 in
+    let same = none_matched _ _ _ c.in_ok-bits.ensures.chain p.3 in
+    let went = went_both g.W.Wire.told g.W.Wire.alterations g.W.Wire.passes g.met.W.Wire.both_pass _ _ _ b.0 p.0 b.1 p.1 in
+    (b.0, went_just g.W.Wire.told g.W.Wire.alterations g.W.Wire.passes _ _ b.0 p.0 none went, b.2, rw same b.3)

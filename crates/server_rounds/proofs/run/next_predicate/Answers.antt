@@ -1,0 +1,67 @@
+use Rattle.std.proofs.Common.{[], ◌++◌, refl, sym, rules, arith, append-nil}
+use Rattle.wire_line.specs.Carried.{went_both}
+use Rattle.server_rounds.proofs.Messages.{group_none, some_matched}
+use Rattle.server_rounds.proofs.run.next_predicate.Goals as goal
+
+pub returns-in_err-bits-clause-messages : goal.returns-in_err-bits-clause-messages
+returns-in_err-bits-clause-messages g c =
+    let b = c.in_err-bits.ensures.messages in (
+      b.0,
+      b.1,
+      (
+        record {
+          bit_messages = b.0;
+          product_messages = [];
+          both = sym (append-nil b.0);
+          held = c.args.chain.chain;
+          bits = b.2;
+          reshared = λ h. absurd (omega arith);
+          products = group_none _ _;
+        },
+        search rules,
+      ),
+    )
+
+pub returns-in_err-product-clause-messages : goal.returns-in_err-product-clause-messages
+returns-in_err-product-clause-messages g c =
+    let b = c.in_ok-bits.ensures.messages in
+    let p = c.in_err-product.ensures.messages in
+    let bits = c.in_ok-bits.bits in
+    let group = rw (c.in_ok-bits.ensures.plan, c.in_ok-bits.ensures.run, c.in_ok-bits.ensures.j) at (some_matched bits.chain c.args.chain.chain _ _ c.in_ok-bits.ensures.chain p.2) in (
+      b.0 ++ p.0,
+      went_both g.W.Wire.told g.W.Wire.alterations g.W.Wire.passes g.met.W.Wire.both_pass _ _ _ b.0 p.0 b.1 p.1,
+      (
+        record {
+          bit_messages = b.0;
+          product_messages = p.0;
+          both = refl;
+          held = bits.bits;
+          bits = b.2;
+          reshared = λ h. b.3;
+          products = group;
+        },
+        search rules,
+      ),
+    )
+
+pub returns-clause-messages : goal.returns-clause-messages
+returns-clause-messages g c =
+    let b = c.in_ok-bits.ensures.messages in
+    let p = c.in_ok-product.ensures.messages in
+    let bits = c.in_ok-bits.bits in
+    let group = rw (c.in_ok-bits.ensures.plan, c.in_ok-bits.ensures.run, c.in_ok-bits.ensures.j) at (some_matched bits.chain c.args.chain.chain _ _ c.in_ok-bits.ensures.chain p.2) in (
+      b.0 ++ p.0,
+      went_both g.W.Wire.told g.W.Wire.alterations g.W.Wire.passes g.met.W.Wire.both_pass _ _ _ b.0 p.0 b.1 p.1,
+      (
+        record {
+          bit_messages = b.0;
+          product_messages = p.0;
+          both = refl;
+          held = bits.bits;
+          bits = b.2;
+          reshared = λ h. b.3;
+          products = group;
+        },
+        some_matched bits.chain c.args.chain.chain _ _ c.in_ok-bits.ensures.chain p.3,
+      ),
+    )

@@ -1,0 +1,5 @@
+pub mod Groups
+pub mod Rounds
+pub mod Shelves
+pub mod Plans
+pub mod Runs

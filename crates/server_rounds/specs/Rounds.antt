@@ -1,0 +1,26 @@
+-- The words of the three servers in a step, and what the client opens.
+use Rattle.std.specs.Prelude.{ℕ, ◌≡◌, List, length, slice_index}
+use Rattle.ring128.specs.Ring.{plus}
+use Rattle.wire_line.specs.declared.message.Message.{Message}
+use Rattle.wire_line.specs.Messages.{message_at}
+use Rattle.scan_chunks.specs.Pieces.{Pieces}
+use Rattle.query_plan.specs.Views.{View}
+use Rattle.transcript.specs.Setup.{Sizes}
+use Rattle.transcript.specs.Formulas.{bits_words, product_words, opening_words}
+use Rattle.server_rounds.specs.Groups.{Pairs, first_of, second_of}
+
+abbrev pub bits_of : Sizes → ℕ → (ℕ → View) → (ℕ → Pieces) → ℕ → ℕ → List ℕ
+bits_of z run views pieces j k = bits_words z run (views k) (pieces k) j
+
+abbrev pub products_of : Sizes → ℕ → (ℕ → View) → ℕ → Pairs → Pairs → ℕ → List ℕ
+products_of z run views j chain bits k =
+    product_words z run (views k) j (first_of chain k) (second_of chain k) (first_of bits k) (second_of bits k)
+
+abbrev pub openings_of : Sizes → ℕ → (ℕ → View) → (ℕ → Pieces) → Pairs → ℕ → List ℕ
+openings_of z run views pieces chain k = opening_words z run (views k) (pieces k) (first_of chain k) (second_of chain k)
+
+-- the sum of the three words that the client received
+pub record IsOpened (ms : List Message) (total : ℕ) : Type 0 where
+  pub full : length ms ≡ 3
+  pub sum : total
+      ≡ plus (plus (slice_index (message_at ms 0).received 0) (slice_index (message_at ms 1).received 0)) (slice_index (message_at ms 2).received 0)

@@ -1,0 +1,77 @@
+ghost use Rattle.std.specs.Prelude.{◌≡◌, ◌<◌, List, [], Some, IfOk, MatchOption};
+ghost use Rattle.wire_line.specs.declared.message.Message.{Message};
+ghost use Rattle.wire_line.specs.Messages.{Went};
+ghost use Rattle.transcript.specs.Setup.{count_of};
+ghost use Rattle.server_rounds.specs.Groups.{AreLong, AreReshared, IsGroup, Pairs};
+ghost use Rattle.server_rounds.specs.Plans.{views_of};
+ghost use Rattle.server_rounds.specs.Rounds.{products_of};
+
+use crate::held::Held;
+use crate::plan::Plan;
+use crate::product::Product;
+use crate::ready::Ready;
+use crate::rounds::product_round;
+use crate::way::Way;
+use ring128::Memory;
+use std::alloc::Global;
+use wire_line::Wire;
+
+/// The state of a run in which the servers hold the bits of predicate j, from 0, and the product of the bits of those before
+/// it, if there are any.
+#[derive(Drop)]
+pub struct Bits {
+    pub(crate) plan: Plan,
+    pub(crate) run: u8,
+    pub(crate) j: u8,
+    pub(crate) chain: Option<Held>,
+    pub(crate) bits: Held,
+    ghost one_of_two: { run < 2 },
+    ghost there: { j < count_of plan },
+    ghost chain_long: { (pairs : Pairs) → chain ≡ Some pairs → AreLong plan.rows pairs },
+    ghost bits_long: { AreLong plan.rows bits },
+}
+
+impl Bits {
+    /// The product with the bits: the servers multiply their shares row by row and send each other their words. For the first
+    /// predicate it is its bits, and no message is carried. The only error is want of memory; the first of these messages may
+    /// then have been carried.
+    pub fn product<W: Wire>(
+        self,
+        alloc: Global,
+        ready: &Ready,
+        wire: &mut W,
+    ) -> Result<Product, Memory>
+        ensures plan { IfOk result (λ p. p.plan ≡ self.plan) }
+        ensures run { IfOk result (λ p. p.run ≡ self.run) }
+        ensures j { IfOk result (λ p. p.j ≡ self.j) }
+        ensures messages { (ms : List Message) × Went W.told W.alterations W.passes wire.old ms wire.new
+            × MatchOption self.chain (ms ≡ [])
+            (λ chain. IsGroup Way.Around (products_of self.plan self.run (views_of ready.now.keys) self.j chain self.bits) ms)
+            × IfOk result (λ p. MatchOption self.chain (p.chain ≡ self.bits) (λ _. AreReshared p.chain ms)) }
+    {
+        let Bits {
+            plan,
+            run,
+            j,
+            chain,
+            bits,
+        } = self;
+        match chain {
+            None => Ok(Product {
+                plan,
+                run,
+                j,
+                chain: bits,
+            }),
+            Some(earlier) => {
+                let chain = product_round(alloc, &plan, &ready.keys, &earlier, &bits, wire, run, j)?;
+                Ok(Product {
+                    plan,
+                    run,
+                    j,
+                    chain,
+                })
+            }
+        }
+    }
+}

@@ -1,0 +1,100 @@
+ghost use Rattle.std.specs.Prelude.{◌≡◌, ◌<◌, ◌≤◌, List, None, map, length, IfOk};
+ghost use Rattle.wire_line.specs.declared.message.Message.{Message};
+ghost use Rattle.wire_line.specs.Messages.{Went};
+ghost use Rattle.server_rounds.specs.Groups.{by_server, AreReshared, IsGroup};
+ghost use Rattle.server_rounds.specs.Plans.{HaveTables, read_for, sizes_for, views_of, words_for};
+ghost use Rattle.server_rounds.specs.Rounds.{bits_of};
+ghost use Rattle.server_rounds.specs.Runs.{HaveRead};
+ghost use Rattle.server_rounds.specs.Shelves.{AreShelves, pieces_of};
+
+use crate::bits::Bits;
+use crate::carry::{Trio, carry_three};
+use crate::keys::ThreeKeys;
+use crate::plan::Plan;
+use crate::rounds::bits_round;
+use crate::shelves::Servers;
+use crate::way::Way;
+use query_plan::Keys;
+use ring128::Memory;
+use scan_chunks::Shelf;
+use std::alloc::Global;
+use std::thread::Threads;
+use wire_line::Wire;
+
+/// What the three servers read from their key messages, and from which both runs begin.
+#[derive(Drop)]
+pub struct Ready {
+    pub(crate) plan: Plan,
+    pub(crate) keys: ThreeKeys,
+    ghost tables: { HaveTables plan keys },
+}
+
+impl Ready {
+    /// Carries the three key messages of a query over so many rows, from the client to the servers, and lets each server read
+    /// what it received. The only error is want of memory; the first of these messages may then have been carried.
+    pub fn send<W: Wire>(
+        alloc: Global,
+        keys: &Keys,
+        rows: u64,
+        wire: &mut W,
+    ) -> Result<Ready, Memory>
+        requires { rows ≤ 65536 }
+        ensures plan { IfOk result (λ ready. ready.plan ≡ sizes_for keys.now rows) }
+        ensures messages { (ms : List Message) × Went W.told W.alterations W.passes wire.old ms wire.new
+            × IsGroup Way.ToServers (words_for keys.now) ms
+            × IfOk result (λ ready. HaveRead (read_for keys.now) (views_of ready.keys) ms) }
+    {
+        let plan = Plan::new(rows, keys.widths(), keys.shape());
+        let zero = keys.message(alloc, 0)?;
+        let one = keys.message(alloc, 1)?;
+        let two = keys.message(alloc, 2)?;
+        let got = carry_three(wire, Way::ToServers, Trio { zero, one, two })?;
+        let zero_read = plan.read_keys(alloc, &got.zero)?;
+        let one_read = plan.read_keys(alloc, &got.one)?;
+        let two_read = plan.read_keys(alloc, &got.two)?;
+        let keys = ThreeKeys {
+            zero: zero_read,
+            one: one_read,
+            two: two_read,
+        };
+        Ok(Ready { plan, keys })
+    }
+
+    /// The bits of the first predicate in run 0 or 1: the servers scan their shelves and send each other their words. The only
+    /// error is want of memory; the first of these messages may then have been carried.
+    pub fn bits<R: Threads + Sync, S: Shelf + Send, W: Wire>(
+        &self,
+        rt: &R,
+        alloc: Global,
+        run: u8,
+        shelves: &mut Servers<S>,
+        wire: &mut W,
+    ) -> Result<Bits, Memory>
+        requires run { run < 2 }
+        requires zero { AreShelves self.now.plan.widths self.now.plan.rows (map S.held shelves.old.zero.items) }
+        requires one { AreShelves self.now.plan.widths self.now.plan.rows (map S.held shelves.old.one.items) }
+        requires two { AreShelves self.now.plan.widths self.now.plan.rows (map S.held shelves.old.two.items) }
+        ensures zero { map S.held shelves.new.zero.items ≡ map S.held shelves.old.zero.items }
+        ensures one { map S.held shelves.new.one.items ≡ map S.held shelves.old.one.items }
+        ensures two { map S.held shelves.new.two.items ≡ map S.held shelves.old.two.items }
+        ensures plan { IfOk result (λ b. b.plan ≡ self.now.plan) }
+        ensures run { IfOk result (λ b. b.run ≡ run) }
+        ensures j { IfOk result (λ b. b.j ≡ 0) }
+        ensures chain { IfOk result (λ b. b.chain ≡ None) }
+        ensures messages { let pieces = by_server (pieces_of (map S.held shelves.old.zero.items))
+            (pieces_of (map S.held shelves.old.one.items)) (pieces_of (map S.held shelves.old.two.items)) in
+            (ms : List Message) × Went W.told W.alterations W.passes wire.old ms wire.new
+            × IsGroup Way.Around (bits_of self.now.plan run (views_of self.now.keys) pieces 0) ms
+            × IfOk result (λ b. AreReshared b.bits ms) }
+    {
+        self.plan.count();
+        let bits = bits_round(rt, alloc, &self.plan, &self.keys, shelves, wire, run, 0)?;
+        Ok(Bits {
+            plan: self.plan.same(),
+            run,
+            j: 0,
+            chain: None,
+            bits,
+        })
+    }
+}

@@ -1,0 +1,128 @@
+//! The three messages of a step, at all servers.
+ghost use Rattle.std.specs.Prelude.{◌≡◌, ◌<◌, List, map, length, IfOk};
+ghost use Rattle.wire_line.specs.declared.message.Message.{Message};
+ghost use Rattle.wire_line.specs.Messages.{Went};
+ghost use Rattle.transcript.specs.Setup.{count_of};
+ghost use Rattle.server_rounds.specs.Groups.{by_server, AreLong, AreReshared, IsGroup};
+ghost use Rattle.server_rounds.specs.Plans.{HaveTables, views_of};
+ghost use Rattle.server_rounds.specs.Rounds.{IsOpened, bits_of, products_of, openings_of};
+ghost use Rattle.server_rounds.specs.Shelves.{AreShelves, pieces_of};
+
+use crate::carry::{Trio, carry_three};
+use crate::held::{Held, reshare};
+use crate::keys::ThreeKeys;
+use crate::part::{bits_part, opening_part, product_part};
+use crate::plan::Plan;
+use crate::shelves::Servers;
+use crate::way::Way;
+use ring128::{Memory, add};
+use scan_chunks::Shelf;
+use std::alloc::Global;
+use std::thread::Threads;
+use wire_line::Wire;
+
+/// The bits of predicate j, and the pairs that the servers then hold of them.
+pub(crate) fn bits_round<R: Threads + Sync, S: Shelf + Send, W: Wire>(
+    rt: &R,
+    alloc: Global,
+    plan: &Plan,
+    keys: &ThreeKeys,
+    shelves: &mut Servers<S>,
+    wire: &mut W,
+    run: u8,
+    j: u8,
+) -> Result<Held, Memory>
+    requires run { run < 2 }
+    requires j { j < count_of plan.now }
+    requires keys { HaveTables plan.now keys.now }
+    requires zero { AreShelves plan.now.widths plan.now.rows (map S.held shelves.old.zero.items) }
+    requires one { AreShelves plan.now.widths plan.now.rows (map S.held shelves.old.one.items) }
+    requires two { AreShelves plan.now.widths plan.now.rows (map S.held shelves.old.two.items) }
+    ensures zero { map S.held shelves.new.zero.items ≡ map S.held shelves.old.zero.items }
+    ensures one { map S.held shelves.new.one.items ≡ map S.held shelves.old.one.items }
+    ensures two { map S.held shelves.new.two.items ≡ map S.held shelves.old.two.items }
+    ensures long { IfOk result (λ held. AreLong plan.now.rows held) }
+    ensures messages { let pieces = by_server (pieces_of (map S.held shelves.old.zero.items))
+        (pieces_of (map S.held shelves.old.one.items)) (pieces_of (map S.held shelves.old.two.items)) in
+        (ms : List Message) × Went W.told W.alterations W.passes wire.old ms wire.new
+        × IsGroup Way.Around (bits_of plan.now run (views_of keys.now) pieces j) ms
+        × IfOk result (λ held. AreReshared held ms) }
+{
+    let zero = bits_part(rt, alloc, plan, &keys.zero, &mut shelves.zero, run, j)?;
+    let one = bits_part(rt, alloc, plan, &keys.one, &mut shelves.one, run, j)?;
+    let two = bits_part(rt, alloc, plan, &keys.two, &mut shelves.two, run, j)?;
+    let held = reshare(alloc, wire, Trio { zero, one, two })?;
+    Ok(held)
+}
+
+/// The product of the chain with the bits of predicate j, and the pairs that the servers then hold of it.
+pub(crate) fn product_round<W: Wire>(
+    alloc: Global,
+    plan: &Plan,
+    keys: &ThreeKeys,
+    chain: &Held,
+    bits: &Held,
+    wire: &mut W,
+    run: u8,
+    j: u8,
+) -> Result<Held, Memory>
+    requires run { run < 2 }
+    requires j { j < count_of plan.now }
+    requires chain { AreLong plan.now.rows chain.now }
+    requires bits { AreLong plan.now.rows bits.now }
+    ensures long { IfOk result (λ held. AreLong plan.now.rows held) }
+    ensures messages { (ms : List Message) × Went W.told W.alterations W.passes wire.old ms wire.new
+        × IsGroup Way.Around (products_of plan.now run (views_of keys.now) j chain.now bits.now) ms
+        × IfOk result (λ held. AreReshared held ms) }
+{
+    let zero = product_part(alloc, plan, &keys.zero, chain.zero(), bits.zero(), run, j)?;
+    let one = product_part(alloc, plan, &keys.one, chain.one(), bits.one(), run, j)?;
+    let two = product_part(alloc, plan, &keys.two, chain.two(), bits.two(), run, j)?;
+    let held = reshare(alloc, wire, Trio { zero, one, two })?;
+    Ok(held)
+}
+
+// Each server sends its word to the client, which adds up what it received.
+fn opened<W: Wire>(wire: &mut W, words: Trio) -> Result<u128, Memory>
+    requires zero { length words.zero ≡ 1 }
+    requires one { length words.one ≡ 1 }
+    requires two { length words.two ≡ 1 }
+    ensures { (ms : List Message) × Went W.told W.alterations W.passes wire.old ms wire.new
+        × IsGroup Way.ToClient (by_server words.zero words.one words.two) ms
+        × IfOk result (λ total. IsOpened ms total) }
+{
+    let got = carry_three(wire, Way::ToClient, words)?;
+    let near = add(got.zero.as_slice()[0], got.one.as_slice()[0]);
+    Ok(add(near, got.two.as_slice()[0]))
+}
+
+/// The openings, and the sum of the words that the client received.
+pub(crate) fn opening_round<S: Shelf, W: Wire>(
+    alloc: Global,
+    plan: &Plan,
+    keys: &ThreeKeys,
+    chain: &Held,
+    shelves: &mut Servers<S>,
+    wire: &mut W,
+    run: u8,
+) -> Result<u128, Memory>
+    requires run { run < 2 }
+    requires chain { AreLong plan.now.rows chain.now }
+    requires zero { AreShelves plan.now.widths plan.now.rows (map S.held shelves.old.zero.items) }
+    requires one { AreShelves plan.now.widths plan.now.rows (map S.held shelves.old.one.items) }
+    requires two { AreShelves plan.now.widths plan.now.rows (map S.held shelves.old.two.items) }
+    ensures zero { map S.held shelves.new.zero.items ≡ map S.held shelves.old.zero.items }
+    ensures one { map S.held shelves.new.one.items ≡ map S.held shelves.old.one.items }
+    ensures two { map S.held shelves.new.two.items ≡ map S.held shelves.old.two.items }
+    ensures messages { let pieces = by_server (pieces_of (map S.held shelves.old.zero.items))
+        (pieces_of (map S.held shelves.old.one.items)) (pieces_of (map S.held shelves.old.two.items)) in
+        (ms : List Message) × Went W.told W.alterations W.passes wire.old ms wire.new
+        × IsGroup Way.ToClient (openings_of plan.now run (views_of keys.now) pieces chain.now) ms
+        × IfOk result (λ total. IsOpened ms total) }
+{
+    let zero = opening_part(alloc, plan, &keys.zero, &mut shelves.zero, chain.zero(), run)?;
+    let one = opening_part(alloc, plan, &keys.one, &mut shelves.one, chain.one(), run)?;
+    let two = opening_part(alloc, plan, &keys.two, &mut shelves.two, chain.two(), run)?;
+    let total = opened(wire, Trio { zero, one, two })?;
+    Ok(total)
+}

@@ -1,0 +1,148 @@
+//! A run, and both runs of a query.
+ghost use Rattle.std.specs.Prelude.{◌≡◌, ◌<◌, ◌≤◌, ◌+◌, List, map, IfOk};
+ghost use Rattle.wire_line.specs.declared.message.Message.{Message};
+ghost use Rattle.wire_line.specs.Messages.{Went};
+ghost use Rattle.transcript.specs.Setup.{count_of, setup_for};
+ghost use Rattle.transcript.specs.Transcript.{IsPart, IsTranscript, opened_of};
+ghost use Rattle.server_rounds.specs.Groups.{by_server, AreReshared, IsGroup};
+ghost use Rattle.server_rounds.specs.Plans.{views_of};
+ghost use Rattle.server_rounds.specs.Rounds.{bits_of};
+ghost use Rattle.server_rounds.specs.Runs.{IsPredicatePart, IsRun, IsRunPart};
+ghost use Rattle.server_rounds.specs.Shelves.{AreShelves, pieces_of, rows_of};
+ghost use Rattle.server_rounds.specs.declared.way.Way.TheVariants.{Around};
+
+use crate::opened::OpenedPair;
+use crate::product::Product;
+use crate::ready::Ready;
+use crate::shelves::{Servers, count_rows};
+use query_plan::Keys;
+use ring128::Memory;
+use scan_chunks::Shelf;
+use std::alloc::Global;
+use std::thread::Threads;
+use wire_line::Wire;
+
+// The first predicate of a run.
+fn first_predicate<R: Threads + Sync, S: Shelf + Send, W: Wire>(
+    rt: &R,
+    alloc: Global,
+    ready: &Ready,
+    run: u8,
+    shelves: &mut Servers<S>,
+    wire: &mut W,
+) -> Result<Product, Memory>
+    requires run { run < 2 }
+    requires zero { AreShelves ready.now.plan.widths ready.now.plan.rows (map S.held shelves.old.zero.items) }
+    requires one { AreShelves ready.now.plan.widths ready.now.plan.rows (map S.held shelves.old.one.items) }
+    requires two { AreShelves ready.now.plan.widths ready.now.plan.rows (map S.held shelves.old.two.items) }
+    ensures zero { map S.held shelves.new.zero.items ≡ map S.held shelves.old.zero.items }
+    ensures one { map S.held shelves.new.one.items ≡ map S.held shelves.old.one.items }
+    ensures two { map S.held shelves.new.two.items ≡ map S.held shelves.old.two.items }
+    ensures plan { IfOk result (λ p. p.plan ≡ ready.now.plan) }
+    ensures run { IfOk result (λ p. p.run ≡ run) }
+    ensures j { IfOk result (λ p. p.j ≡ 0) }
+    ensures messages { let pieces = by_server (pieces_of (map S.held shelves.old.zero.items))
+        (pieces_of (map S.held shelves.old.one.items)) (pieces_of (map S.held shelves.old.two.items)) in
+        (ms : List Message) × Went W.told W.alterations W.passes wire.old ms wire.new
+        × IsGroup Around (bits_of ready.now.plan run (views_of ready.now.keys) pieces 0) ms
+        × IfOk result (λ p. AreReshared p.chain ms) }
+{
+    let bits = ready.bits(rt, alloc, run, shelves, wire)?;
+    let product = bits.product(alloc, ready, wire)?;
+    Ok(product)
+}
+
+// The next predicate of a run.
+fn next_predicate<R: Threads + Sync, S: Shelf + Send, W: Wire>(
+    rt: &R,
+    alloc: Global,
+    ready: &Ready,
+    chain: Product,
+    shelves: &mut Servers<S>,
+    wire: &mut W,
+) -> Result<Product, Memory>
+    requires began { chain.plan ≡ ready.now.plan }
+    requires left { chain.j + 1 < count_of chain.plan }
+    requires zero { AreShelves chain.plan.widths chain.plan.rows (map S.held shelves.old.zero.items) }
+    requires one { AreShelves chain.plan.widths chain.plan.rows (map S.held shelves.old.one.items) }
+    requires two { AreShelves chain.plan.widths chain.plan.rows (map S.held shelves.old.two.items) }
+    ensures zero { map S.held shelves.new.zero.items ≡ map S.held shelves.old.zero.items }
+    ensures one { map S.held shelves.new.one.items ≡ map S.held shelves.old.one.items }
+    ensures two { map S.held shelves.new.two.items ≡ map S.held shelves.old.two.items }
+    ensures plan { IfOk result (λ p. p.plan ≡ chain.plan) }
+    ensures run { IfOk result (λ p. p.run ≡ chain.run) }
+    ensures j { IfOk result (λ p. p.j ≡ chain.j + 1) }
+    ensures messages { let pieces = by_server (pieces_of (map S.held shelves.old.zero.items))
+        (pieces_of (map S.held shelves.old.one.items)) (pieces_of (map S.held shelves.old.two.items)) in
+        (ms : List Message) × Went W.told W.alterations W.passes wire.old ms wire.new
+        × ((part : IsPredicatePart chain.plan chain.run (views_of ready.now.keys) pieces (chain.j + 1) chain.chain ms)
+        × IfOk result (λ p. AreReshared p.chain part.product_messages)) }
+{
+    let bits = chain.bits(rt, alloc, ready, shelves, wire)?;
+    let product = bits.product(alloc, ready, wire)?;
+    Ok(product)
+}
+
+// A run, and what the client opened in it.
+fn run_once<R: Threads + Sync, S: Shelf + Send, W: Wire>(
+    rt: &R,
+    alloc: Global,
+    ready: &Ready,
+    run: u8,
+    shelves: &mut Servers<S>,
+    wire: &mut W,
+) -> Result<u128, Memory>
+    requires run { run < 2 }
+    requires zero { AreShelves ready.now.plan.widths ready.now.plan.rows (map S.held shelves.old.zero.items) }
+    requires one { AreShelves ready.now.plan.widths ready.now.plan.rows (map S.held shelves.old.one.items) }
+    requires two { AreShelves ready.now.plan.widths ready.now.plan.rows (map S.held shelves.old.two.items) }
+    ensures zero { map S.held shelves.new.zero.items ≡ map S.held shelves.old.zero.items }
+    ensures one { map S.held shelves.new.one.items ≡ map S.held shelves.old.one.items }
+    ensures two { map S.held shelves.new.two.items ≡ map S.held shelves.old.two.items }
+    ensures some { 0 < count_of ready.now.plan }
+    ensures messages { let pieces = by_server (pieces_of (map S.held shelves.old.zero.items))
+        (pieces_of (map S.held shelves.old.one.items)) (pieces_of (map S.held shelves.old.two.items)) in
+        let views = views_of ready.now.keys in
+        (ms : List Message) × Went W.told W.alterations W.passes wire.old ms wire.new
+        × IsRunPart ready.now.plan pieces run views ms
+        × IfOk result (λ total. IsRun ready.now.plan pieces run views ms total) }
+{
+    let count = ready.plan.count();
+    let mut product = first_predicate(rt, alloc, ready, run, shelves, wire)?;
+    for _j in 1..count {
+        product = next_predicate(rt, alloc, ready, product, shelves, wire)?;
+    }
+    let opened = product.reveal(alloc, ready, shelves, wire)?;
+    Ok(opened.total)
+}
+
+/// Both runs of a query over the rows at three servers, through a wire: run 0 opens the total, and run 1, with the weights of the
+/// keys, the weighted total. The shelves have the columns that the keys were made for, and the same number of rows at each
+/// server, at most 65,536. The only error is want of memory; the messages carried by then are the first ones of the query.
+pub fn both_runs<R: Threads + Sync, S: Shelf + Send, W: Wire>(
+    rt: &R,
+    alloc: Global,
+    shelves: &mut Servers<S>,
+    keys: &Keys,
+    wire: &mut W,
+) -> Result<OpenedPair, Memory>
+    requires few { rows_of (map S.held shelves.old.zero.items) ≤ 65536 }
+    requires zero { AreShelves keys.now.widths (rows_of (map S.held shelves.old.zero.items)) (map S.held shelves.old.zero.items) }
+    requires one { AreShelves keys.now.widths (rows_of (map S.held shelves.old.zero.items)) (map S.held shelves.old.one.items) }
+    requires two { AreShelves keys.now.widths (rows_of (map S.held shelves.old.zero.items)) (map S.held shelves.old.two.items) }
+    ensures zero { map S.held shelves.new.zero.items ≡ map S.held shelves.old.zero.items }
+    ensures one { map S.held shelves.new.one.items ≡ map S.held shelves.old.one.items }
+    ensures two { map S.held shelves.new.two.items ≡ map S.held shelves.old.two.items }
+    ensures messages { let pieces = by_server (pieces_of (map S.held shelves.old.zero.items))
+        (pieces_of (map S.held shelves.old.one.items)) (pieces_of (map S.held shelves.old.two.items)) in
+        let setup = setup_for keys.now.query keys.now.widths keys.now.seed (rows_of (map S.held shelves.old.zero.items)) pieces in
+        (ms : List Message) × Went W.told W.alterations W.passes wire.old ms wire.new
+        × IsPart setup ms
+        × IfOk result (λ pair. IsTranscript setup ms × (pair.total ≡ opened_of setup ms 0) × (pair.weighted ≡ opened_of setup ms 1)) }
+{
+    let rows = count_rows(shelves.zero.as_slice());
+    let ready = Ready::send(alloc, keys, rows, wire)?;
+    let total = run_once(rt, alloc, &ready, 0, shelves, wire)?;
+    let weighted = run_once(rt, alloc, &ready, 1, shelves, wire)?;
+    Ok(OpenedPair { total, weighted })
+}

@@ -1,0 +1,98 @@
+//! What a server does with its shelves.
+ghost use Rattle.std.specs.Prelude.{◌≡◌, ◌<◌, ◌≤◌, map, length, All, IfOk};
+ghost use Rattle.list_facts.specs.Count.{total};
+ghost use Rattle.list_facts.specs.Listed.{listed};
+ghost use Rattle.scan_chunks.specs.Shelf.{IsShelf};
+ghost use Rattle.scan_chunks.specs.Scan.{row_number};
+ghost use Rattle.onehot_column.specs.Code.{width_of};
+ghost use Rattle.server_rounds.specs.Shelves.{AreShelves, pieces_of};
+
+use crate::plan::Plan;
+use replicated_share::PairList;
+use ring128::{Memory, Words};
+use scan_chunks::{Shelf, Tables, read_column, scan_many};
+use std::alloc::Global;
+use std::thread::Threads;
+
+
+/// The shelves of the three servers, with equal numbers of rows.
+#[derive(Drop)]
+pub struct Servers<S> {
+    pub zero: Vec<S>,
+    pub one: Vec<S>,
+    pub two: Vec<S>,
+}
+
+/// How many rows shelves have together. Each says of itself that its columns are as long as its rows are wide.
+pub(crate) fn count_rows<S: Shelf>(shelves: &[S]) -> u64
+    requires { total (λ s. (S.held s).rows) shelves.now ≤ 65536 }
+    ensures count { result ≡ total (λ s. (S.held s).rows) shelves.now }
+    ensures shelves { All (λ s. IsShelf (S.held s)) shelves.now }
+{
+    let mut count = 0;
+    for shelf in shelves {
+        count += shelf.rows();
+    }
+    count
+}
+
+// How many rows a server's shelves have, which is what the plan says.
+fn rows_together<S: Shelf>(plan: &Plan, shelves: &[S]) -> u64
+    requires { AreShelves plan.now.widths plan.now.rows (map S.held shelves.now) }
+    ensures count { result ≡ plan.now.rows }
+    ensures few { result ≤ 65536 }
+    ensures shelves { All (λ s. IsShelf (S.held s)) shelves.now }
+{
+    plan.rows();
+    count_rows(shelves)
+}
+
+/// The number of each row of a server at a column: the firsts of its cells with one table, their seconds with the other.
+pub(crate) fn scan_rows<R: Threads + Sync, S: Shelf + Send>(
+    rt: &R,
+    alloc: Global,
+    plan: &Plan,
+    shelves: &mut Vec<S>,
+    column: u8,
+    tables: &Tables,
+) -> Result<Words, Memory>
+    requires shelves { AreShelves plan.now.widths plan.now.rows (map S.held shelves.old.items) }
+    requires column { column < plan.now.widths.columns }
+    requires zero { length tables.now.zero ≡ width_of plan.now.widths column }
+    requires one { length tables.now.one ≡ width_of plan.now.widths column }
+    ensures held { map S.held shelves.new.items ≡ map S.held shelves.old.items }
+    ensures numbers { let pieces = pieces_of (map S.held shelves.old.items) in
+        IfOk result (λ w. w ≡ listed plan.now.rows
+        (row_number tables.now.zero tables.now.one (width_of plan.now.widths column) (pieces.first column) (pieces.second column))) }
+{
+    let _rows = rows_together(plan, shelves.as_slice());
+    let numbers = scan_many(rt, alloc, shelves.as_mut_slice(), column, tables)?;
+    Ok(numbers)
+}
+
+/// The pairs of the values of a server's rows.
+pub(crate) fn read_values<S: Shelf>(
+    alloc: Global,
+    plan: &Plan,
+    shelves: &mut Vec<S>,
+) -> Result<PairList, Memory>
+    requires { AreShelves plan.now.widths plan.now.rows (map S.held shelves.old.items) }
+    ensures held { map S.held shelves.new.items ≡ map S.held shelves.old.items }
+    ensures first { IfOk result (λ p. p.first ≡ (pieces_of (map S.held shelves.old.items)).first plan.now.widths.columns) }
+    ensures second { IfOk result (λ p. p.second ≡ (pieces_of (map S.held shelves.old.items)).second plan.now.widths.columns) }
+    ensures long { IfOk result (λ p. length p.first ≡ plan.now.rows) }
+{
+    let rows = rows_together(plan, shelves.as_slice()) as usize;
+    let column = plan.value();
+    let mut first = Vec::with_capacity(alloc, rows)?;
+    let mut second = Vec::with_capacity(alloc, rows)?;
+    for i in 0..shelves.len() {
+        let values = read_column(alloc, &mut shelves[i], column)?;
+        first.extend_from_slice(values.first.as_slice())?;
+        second.extend_from_slice(values.second.as_slice())?;
+    }
+    Ok(PairList {
+        first: Words::from_vec(first),
+        second: Words::from_vec(second),
+    })
+}
