@@ -13,6 +13,7 @@ use Rattle.scan_chunks.specs.Shelf.{Held}
 use Rattle.server_rounds.specs.Groups.{by_server}
 use Rattle.server_rounds.specs.Shelves.{AreShelves, pieces_of}
 use Rattle.table_schema.specs.declared.rows.Row.{Row}
+use Rattle.table_schema.specs.declared.shapes.Part.{Part}
 use Rattle.table_schema.specs.declared.widths.Widths.{Widths}
 use Rattle.transcript.specs.Laws.{HasColumns, SamePieces}
 use Rattle.transcript.specs.Rows.{cells_over, pieces_over}
@@ -76,7 +77,8 @@ has_columns query w rows places suits j lt =
     let placed : IsPlaced w.columns w.bits query j = suits.placed j (omega (arith, suits.few)) in
     let next : IsNext w.columns w.bits (take j query.predicates) (predicate_at query j) = rw (lt-ltb j query.count lt) at placed in
     let there : j < length query.predicates = omega (arith, suits.few) in
-    rw (get_or-map part_of query.predicates j no_predicate _ there) next.legal.column
+    let column : (get_or (map part_of query.predicates) j (part_of no_predicate)).column ≡ (predicate_at query j).column = ap (λ (p : Part). p.column) (get_or-map part_of query.predicates j no_predicate _ there) in
+    subst (λ (c : ℕ). c < w.columns) (sym column) next.legal.column
 
 -- the messages over the shelves are those over the rows
 pub over_rows : (ask : Ask) (w : Widths) (rows : List Row) (keys : Asked) (n : ℕ) (pieces : ℕ → Pieces) (ms : List Message) → IsOver ask rows w
@@ -101,7 +103,7 @@ all_over_rows ask w rows keys n pieces ms over made many same all = record {
 pub same_opened : (ask : Ask) (w : Widths) (rows : List Row) (keys : Asked) (n run : ℕ) (pieces : ℕ → Pieces) (ms : List Message)
     → keys ≡ record { query = ask.query; widths = w; seed = query_seed } → n ≡ length rows
     → opened_of (setup_for keys.query keys.widths keys.seed n pieces) ms run ≡ opened_of (setup_of ask w rows) ms run
-same_opened ask w rows keys n run pieces ms made many = rw (made, many) refl
+same_opened ask w rows keys n run pieces ms made many = ap (λ (k : Asked). opened_of (setup_for k.query k.widths k.seed n pieces) ms run) made
 
 -- no message is part of any query's
 pub no_part : (s : Setup) → IsPart s []

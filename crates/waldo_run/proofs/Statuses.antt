@@ -195,15 +195,15 @@ over_told answer (Ok command) reading source told suits reads sure e =
 pub plain_of : KeysAddUp → (command : Result Command WordFault) (source sink : Change) (carried : List Message → Type 0) (status : ℕ)
     → Runs command source carried sink status → (Rose source.before source.now → ⊥) → ((ms : List Message) → carried ms → IsHonest ms)
     → (told : List ℕ) → source.old ≡ Some told → Puts (plain_reply command told) sink status
-plain_of known command source sink carried status run sure honest told e =
+plain_of keys command source sink carried status run sure honest told e =
     let r = run.replies in
-    let plain = plainly known command r.reading r.messages r.pair r.asked (honest r.messages r.sent) in
+    let plain = plainly keys command r.reading r.messages r.pair r.asked (honest r.messages r.sent) in
     subst (λ reply. Puts reply sink status) (r.is ∙ plain ∙ over_told plain_answer command r.reading source told r.suits r.reads sure e) run.puts
 
 -- the status is that of the reply
 of_reply : (command : Result Command WordFault) (source sink : Change) (carried : List Message → Type 0) (status : ℕ) (run : Runs command source carried sink status)
     → status ≢ 4 → (reply_to (checked_answer run.replies.pair) command run.replies.reading).status ≡ status
-of_reply command source sink carried status run no = sym (ap (λ r. r.status) run.replies.is) ∙ sym (own_status run.reply sink status no run.puts)
+of_reply command source sink carried status run written = sym (ap (λ r. r.status) run.replies.is) ∙ sym (own_status run.reply sink status written run.puts)
 
 pub refused_of : (command : Result Command WordFault) (source sink : Change) (carried : List Message → Type 0) (status : ℕ)
     → Runs command source carried sink status → status ≡ 2 → IsErr command
@@ -257,25 +257,25 @@ unread_of command source sink carried status run e = unread_by command run.repli
 
 -- a refused pair belongs to messages of which one was altered
 not_altered : KeysAddUp → (pair : OpenedPair) (command : Command) (reading : Reading) (ms : List Message) → Asked (Ok command) ms pair reading → IsHonest ms → AlteredAt pair command reading → ⊥
-not_altered known pair command Untouched ms asked honest a = a
-not_altered known pair command Long ms asked honest a = a
-not_altered known pair command Broken ms asked honest a = a
-not_altered known pair (commands.Ask ask) (Whole bytes) ms asked honest a = by_rows (rows_in ask.schema bytes) asked a
+not_altered keys pair command Untouched ms asked honest a = a
+not_altered keys pair command Long ms asked honest a = a
+not_altered keys pair command Broken ms asked honest a = a
+not_altered keys pair (commands.Ask ask) (Whole bytes) ms asked honest a = by_rows (rows_in ask.schema bytes) asked a
   where
     by_rows : (rows : Result (List Row) RowFault) → AskedOver ask ms pair rows → IsAltered pair ask rows → ⊥
     by_rows (Err fault) o i = i
-    by_rows (Ok rows) o i = absurd (let e : checked pair.total pair.weighted (key_for ask) ≡ Ok (word_of (plain ask.query rows)) = honest_checked known ask rows ms pair o honest in search rules)
+    by_rows (Ok rows) o i = absurd (let e : checked pair.total pair.weighted (key_for ask) ≡ Ok (word_of (plain ask.query rows)) = honest_checked keys ask rows ms pair o honest in search rules)
 
 altered_of : KeysAddUp → (pair : OpenedPair) (command : Result Command WordFault) (reading : Reading) (ms : List Message) → Suits command reading
     → Asked command ms pair reading → (reply_to (checked_answer pair) command reading).status ≡ 7 → IsHonest ms → ⊥
-altered_of known pair (Err fault) reading ms suits asked e honest = elim (refusal_status (checked_answer pair) fault 7 e) [ inl p ↦ omega arith | inr p ↦ omega arith ]
-altered_of known pair (Ok command) reading ms suits asked e honest = not_altered known pair command reading ms asked honest ((known pair command reading suits).seven e)
+altered_of keys pair (Err fault) reading ms suits asked e honest = elim (refusal_status (checked_answer pair) fault 7 e) [ inl p ↦ omega arith | inr p ↦ omega arith ]
+altered_of keys pair (Ok command) reading ms suits asked e honest = not_altered keys pair command reading ms asked honest ((known pair command reading suits).seven e)
 
 pub seven_of : KeysAddUp → (command : Result Command WordFault) (source sink : Change) (carried : List Message → Type 0) (status : ℕ)
     → Runs command source carried sink status → status ≡ 7 → ((ms : List Message) → carried ms → IsHonest ms) → ⊥
-seven_of known command source sink carried status run e honest =
+seven_of keys command source sink carried status run e honest =
     let r = run.replies in
-    altered_of known r.pair command r.reading r.messages r.suits r.asked (of_reply command source sink carried status run (λ four. omega arith) ∙ e) (honest r.messages r.sent)
+    altered_of keys r.pair command r.reading r.messages r.suits r.asked (of_reply command source sink carried status run (λ four. omega arith) ∙ e) (honest r.messages r.sent)
 
 pub if_some : (o : Option (List ℕ)) (P : List ℕ → Type 0) → ((x : List ℕ) → o ≡ Some x → P x) → IfSome o P
 if_some None P f = tt
