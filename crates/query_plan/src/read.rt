@@ -41,6 +41,7 @@ fn count_left(rest: Option<&[u8]>) -> usize
 pub fn read_query(schema: &Schema, text: &str) -> Result<Query, QueryFault>
     ensures exact { Reads (λ q. q) result (query_of schema.now text.now) }
     ensures suits { IfOk result (λ q. (w : Widths) → AreWidthsOf schema.now w → Suits w.columns w.bits q) }
+    ensures places { IfOk result (λ q. length q.predicates ≡ 4) }
 {
     let (word, after) = cut(text.as_bytes(), b' ');
     let Some(aggregate) = aggregate(word) else {

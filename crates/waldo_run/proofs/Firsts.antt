@@ -3,11 +3,15 @@ use Rattle.std.proofs.Common.{◌≡◌, refl, sym, subst, ℕ, zero, suc, ◌<�
 use Rattle.fault_count.specs.Causes.{Rose}
 use Rattle.wire_line.specs.Messages.{IsHonest, Went}
 use Rattle.wire_line.specs.declared.message.Message.{Message}
-use Rattle.waldo_run.specs.Run.{Breaks, Change, Runs}
 use Rattle.waldo_run.specs.Wires.{FirstRose, FirstWent}
-use Rattle.std.specs.Prelude.{Result}
-use Rattle.waldo_run.specs.declared.words.Command.{Command}
-use Rattle.waldo_run.specs.declared.words.WordFault.{WordFault}
+use Rattle.std.specs.Prelude.{◌+◌, ◌-◌, ◌^◌, min, nat_le, Bool, true, false}
+
+rose_by : (a b : ℕ) (t : Bool) → nat_le (min (a + 1) (2 ^ 64 - 1)) b ≡ t → ((Rose a b → ⊥) → ⊥) → Rose a b
+rose_by a b true e f = grind arith
+rose_by a b false e f = absurd (f (λ rose. absurd (grind arith)))
+
+rose_twice : (a b : ℕ) → ((Rose a b → ⊥) → ⊥) → Rose a b
+rose_twice a b f = rose_by a b _ refl f
 
 module _ {W : Type 0} (told : W → Option (List Message)) (alterations : W → ℕ) (passes : W → List Message → W → Type 0) where
 
@@ -23,17 +27,8 @@ module _ {W : Type 0} (told : W → Option (List Message)) (alterations : W → 
   first_honest (v ∷ vs) [] still ms went = absurd went
   first_honest (v ∷ vs) (w ∷ ws) still ms went = went.0.honest still
 
--- the same run, of which more is said of what was carried
-pub runs_over : (command : Result Command WordFault) (source sink : Change) (status : ℕ) (carried more : List Message → Type 0)
-    → ((ms : List Message) → carried ms → more ms) → Runs command source carried sink status → Runs command source more sink status
-runs_over command source sink status carried more tell run =
-    let r = run.replies in
-    record {
-      reply = run.reply;
-      replies = record { reading = r.reading; suits = r.suits; reads = r.reads; messages = r.messages; sent = tell r.messages r.sent; pair = r.pair; asked = r.asked; is = r.is };
-      puts = run.puts;
-    }
-
-pub breaks_over : (command : Result Command WordFault) (source : Change) (carried more : List Message → Type 0)
-    → ((ms : List Message) → carried ms → more ms) → Breaks command source carried → Breaks command source more
-breaks_over command source carried more tell b = record { messages = b.messages; sent = tell b.messages b.sent; begun = b.begun }
+  -- a count that can't but have risen rose
+  pub first_rose : (wires after : List W) → ((FirstRose alterations wires after → ⊥) → ⊥) → FirstRose alterations wires after
+  first_rose [] after f = absurd (f (λ x. x))
+  first_rose (v ∷ vs) [] f = absurd (f (λ x. x))
+  first_rose (v ∷ vs) (w ∷ ws) f = rose_twice (alterations v) (alterations w) f

@@ -11,7 +11,7 @@ use Rattle.query_plan.specs.declared.query.Query.{Query}
 use Rattle.scan_chunks.specs.Pieces.{Pieces}
 use Rattle.scan_chunks.specs.Shelf.{Held}
 use Rattle.server_rounds.specs.Groups.{by_server}
-use Rattle.server_rounds.specs.Shelves.{AreShelves, pieces_of}
+use Rattle.server_rounds.specs.Shelves.{AreShelves, pieces_of, rows_of}
 use Rattle.table_schema.specs.declared.rows.Row.{Row}
 use Rattle.table_schema.specs.declared.shapes.Part.{Part}
 use Rattle.table_schema.specs.declared.widths.Widths.{Widths}
@@ -23,7 +23,14 @@ use Rattle.transcript.proofs.Agree.{columns_suffice}
 use Rattle.wire_line.specs.declared.message.Message.{Message}
 use Rattle.waldo_run.specs.Asking.{IsOver, master, query_seed, setup_of}
 use Rattle.waldo_run.specs.Table.{HasShelf, entries_of}
+use Rattle.waldo_run.specs.Words.{Suited}
 use Rattle.waldo_run.specs.declared.words.Ask.{Ask}
+use Rattle.waldo_run.specs.declared.words.Command.TheVariants as commands
+use Rattle.query_plan.specs.Query.{AreWidthsOf}
+use Rattle.row_source.specs.Rows.{AreRowsOf}
+use Rattle.table_schema.specs.Widths.{column_bits}
+use Rattle.table_schema.specs.declared.schema.Column.{Column}
+use Rattle.waldo_run.proofs.Tables.{length-entries_from}
 
 one_all : (P : Held → Type 0) (h : Held) → P h → All P (h ∷ [])
 one_all P h p zero d b = p
@@ -40,6 +47,10 @@ are_shelves w k entries hs has =
       wide = λ column le. one_all (λ (h : Held). h.width column ≡ width_of w column) has.shelf (keeps.width column le);
       order = (keeps.start, (λ more. absurd (omega (arith, more))), record {});
     })
+
+-- a server's rows are as many as the rows that were split
+pub rows_long : (w : Widths) (k : ℕ) (master : Seed) (rows : List Row) (hs : List Held) → HasShelf w k (entries_of master rows) hs → rows_of hs ≡ length rows
+rows_long w k master rows hs has = (are_shelves w k (entries_of master rows) hs has).count ∙ length-entries_from master 0 rows
 
 first_alone : (w : Widths) (k column : ℕ) (entries : List (Row × Seed)) (hs : List Held) → column ≤ w.columns → HasShelf w k entries hs
     → (pieces_of hs).first column ≡ cells_over w k entries column
@@ -99,7 +110,10 @@ all_over_rows ask w rows keys n pieces ms over made many same all = record {
   full = all.full ∙ ap (λ (k : Asked). 3 + 12 * k.query.count) made;
 }
 
--- what they open
+-- what they open rests on no pieces
+pub no_pieces : ℕ → Pieces
+no_pieces k = record { first = λ column. []; second = λ column. [] }
+
 pub same_opened : (ask : Ask) (w : Widths) (rows : List Row) (keys : Asked) (n run : ℕ) (pieces : ℕ → Pieces) (ms : List Message)
     → keys ≡ record { query = ask.query; widths = w; seed = query_seed } → n ≡ length rows
     → opened_of (setup_for keys.query keys.widths keys.seed n pieces) ms run ≡ opened_of (setup_of ask w rows) ms run
@@ -108,3 +122,10 @@ same_opened ask w rows keys n run pieces ms made many = ap (λ (k : Asked). open
 -- no message is part of any query's
 pub no_part : (s : Setup) → IsPart s []
 no_part s = record { few = omega arith; keys = λ k h b. absurd (omega (arith, b)); steps = λ run step k two h b carried. absurd (omega (arith, carried)) }
+
+-- rows that were read under a schema, for a query that suits it
+pub is_over : (ask : Ask) (w : Widths) (rows : List Row) (most : ℕ) → Suited (commands.Ask ask) → w.columns ≡ length ask.schema
+    → column_bits w ≡ map (λ (c : Column). c.bits) ask.schema → AreRowsOf ask.schema rows → length rows ≤ most → most ≤ 65536 → IsOver ask rows w
+is_over ask w rows most suited columns bits held few limit =
+    let of : AreWidthsOf ask.schema w = record { count = columns; bits = bits } in
+    record { widths = of; places = suited.0; suits = suited.1 w of; held = held w bits; few = omega arith }

@@ -1,5 +1,5 @@
 -- What the command words say.
-use Rattle.std.specs.Prelude.{ℕ, bytes_eq, if◌then◌else◌, Result, Ok, Err, List, [], ◌∷◌, codes}
+use Rattle.std.specs.Prelude.{ℕ, bytes_eq, if◌then◌else◌, ◌≡◌, length, Result, Ok, Err, List, [], ◌∷◌, codes}
 use Rattle.query_plan.specs.Query.{AreWidthsOf, Suits}
 use Rattle.query_plan.specs.Reading.{query_of}
 use Rattle.query_plan.specs.declared.query.Query.{Query}
@@ -41,6 +41,6 @@ unfoldable pub command_of : List (List ℕ) → Result Command WordFault
 command_of [] = Err (Missing (codes "command"))
 command_of (word ∷ words) = if bytes_eq word (codes "ask") then after_command words else Err (Word 0)
 
--- the query of the command is legal over the widths of its columns
+-- the query of the command is legal over the widths of its columns, and has four places for predicates
 abbrev pub Suited : Command → Type 0
-Suited (commands.Ask ask) = (w : Widths) → AreWidthsOf ask.schema w → Suits w.columns w.bits ask.query
+Suited (commands.Ask ask) = (length ask.query.predicates ≡ 4) × ((w : Widths) → AreWidthsOf ask.schema w → Suits w.columns w.bits ask.query)

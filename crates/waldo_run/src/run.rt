@@ -204,5 +204,6 @@ pub fn run_still<R: Threads + Sync, S: Source, K: Sink, W: Wire>(
     ensures input { result ≡ 5 → IfSome (S.left source.old) (Refuses (command_of (map string_bytes words.now))) }
     ensures altered { result ≡ 7 → FirstRose W.alterations wires.old.items wires.new.items }
 {
+    query_plan::laws::keys_add_up();
     run_words(rt, alloc, words, source, sink, &mut wires[0])
 }
