@@ -45,12 +45,7 @@ impl Model for Keys {
 /// Makes the keys of a query that suits the widths, from the query's seed. What the three servers read from their
 /// messages are keys of this query, with weight 1 in run 0 and with the weights of the seed in run 1. The only error
 /// is want of memory.
-pub fn make_keys(
-    alloc: Global,
-    query: &Query,
-    widths: &Widths,
-    seed: &Seed,
-) -> Result<Keys, Memory>
+pub fn make_keys(alloc: Global, query: &Query, widths: &Widths, seed: &Seed) -> Result<Keys, Memory>
     requires suits { Suits widths.now.columns widths.now.bits query.now }
     ensures made { IfOk result (λ k. k ≡ record { query = query.now; widths = widths.now; seed = seed.now }) }
     ensures add_up { IfOk result (λ _. AreKeys widths.now.bits
