@@ -1,3 +1,4 @@
 pub mod CompareWords
 pub mod Compares
 pub mod Generated
+pub mod Laws

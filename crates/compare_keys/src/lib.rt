@@ -16,6 +16,7 @@
 #![tactic(auto)]
 
 mod key;
+pub mod laws;
 mod level;
 mod tally;
 mod words;

@@ -72,5 +72,10 @@ fn words_are_read_back_or_refused(rt: HostRuntime) -> Result<(), Fail> {
     changed[8] = 7;
     let refused = from_words(alloc, 2, &changed);
     assert_eq!(rt; refused.err(), Some(KeyFault::Bits { level: 1 }));
+    // The two lowest bits of 7 are 3.
+    let reduced = read_words(alloc, 2, &changed).map_err(|_| "no memory")?;
+    changed[8] = 3;
+    let reread = to_words(alloc, &reduced).map_err(|_| "no memory")?;
+    assert_eq!(rt; reread.as_slice(), changed.as_slice());
     Ok(())
 }

@@ -1,3 +1,4 @@
 pub mod IntervalWords
 pub mod Intervals
 pub mod Keys
+pub mod Laws

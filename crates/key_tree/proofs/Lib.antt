@@ -1,3 +1,4 @@
+pub mod Halves
 pub mod Leaves
 pub mod Levels
 pub mod Reading

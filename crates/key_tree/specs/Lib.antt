@@ -1,3 +1,4 @@
 pub mod KeyWords
 pub mod Keys
+pub mod Seeds
 pub mod Tree

@@ -23,6 +23,7 @@ mod fault;
 mod key_level;
 mod key_words;
 mod leaf;
+pub mod laws;
 mod level;
 mod node;
 mod side;

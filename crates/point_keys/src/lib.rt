@@ -17,6 +17,7 @@
 #![tactic(auto)]
 
 mod key;
+pub mod laws;
 mod words;
 
 pub use key::{PointKey, generate, table, value};

@@ -5,7 +5,9 @@ use Rattle.std.proofs.lemmas.Bool.{cases_order, lt-ltb, le-ltb}
 use Rattle.std.proofs.lemmas.List.{take-set-le, get_or-set_same, get_or-set_other, get_or-take}
 use Rattle.table_schema.specs.declared.schema.Column.{Column}
 use Rattle.table_schema.specs.declared.widths.Widths.{Widths}
-use Rattle.query_plan.specs.Query.{no_predicate, predicate_at, IsPredicate, IsNext, IsPlaced, Suits, AreWidthsOf}
+use Rattle.std.proofs.Math.ListN.{get_or-map}
+use Rattle.query_plan.specs.KeyMessages.{part_at}
+use Rattle.query_plan.specs.Query.{no_predicate, part_of, shaped, predicate_at, IsPredicate, IsNext, IsPlaced, Suits, AreWidthsOf}
 use Rattle.query_plan.specs.Reading.{with_predicate}
 use Rattle.query_plan.specs.declared.query.Predicate.{Predicate}
 use Rattle.query_plan.specs.declared.query.Query.{Query}
@@ -15,7 +17,7 @@ placed_if : (columns : ℕ) (bits : List ℕ) (q : Query) (i : ℕ) (b : Bool) �
     → MatchBool b (IsNext columns bits (take i q.predicates) (predicate_at q i)) (predicate_at q i ≡ no_predicate) → IsPlaced columns bits q i
 placed_if columns bits q i b e h = rw e h
 
-if_below : (columns : ℕ) (bits : List ℕ) (q : Query) (i : ℕ) → i < q.count → IsPlaced columns bits q i → IsNext columns bits (take i q.predicates) (predicate_at q i)
+pub if_below : (columns : ℕ) (bits : List ℕ) (q : Query) (i : ℕ) → i < q.count → IsPlaced columns bits q i → IsNext columns bits (take i q.predicates) (predicate_at q i)
 if_below columns bits q i lt h = rw (lt-ltb i q.count lt) at h
 
 if_past : (columns : ℕ) (bits : List ℕ) (q : Query) (i : ℕ) → q.count ≤ i → IsPlaced columns bits q i → predicate_at q i ≡ no_predicate
@@ -71,3 +73,9 @@ suits_widths columns w q are some few placed = record { some = some; few = few; 
 
     past : (i : ℕ) → i < 4 → q.count ≤ i → IsPlaced w.columns w.bits q i
     past i h le = placed_if w.columns w.bits q i false (le-ltb i q.count le) (if_past (length columns) (map (λ (c : Column). c.bits) columns) q i le (placed i h))
+
+-- the parts of a legal query are on columns
+pub parts_there : (columns : ℕ) (bits : List ℕ) (q : Query) → Suits columns bits q → (j : ℕ) → j < q.count → (part_at (shaped q) j).column < columns
+parts_there columns bits q suits j lt =
+    let next : IsNext columns bits (take j q.predicates) (predicate_at q j) = if_below columns bits q j lt (suits.placed j (omega (arith, suits.few))) in
+    rw (get_or-map part_of q.predicates j no_predicate) next.legal.column

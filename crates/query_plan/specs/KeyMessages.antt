@@ -66,6 +66,10 @@ parts_of shape = take shape.count shape.parts
 abbrev pub message_length : Shape → List ℕ → ℕ
 message_length shape bits = 4 + 2 * run_length bits (parts_of shape)
 
+-- part j of a shape
+abbrev pub part_at : Shape → ℕ → Part
+part_at shape j = get_or shape.parts j (record { column = 0; kind = Point })
+
 -- a part on one of so many columns
 abbrev pub HasColumn : ℕ → Part → Type 0
 HasColumn columns part = part.column < columns

@@ -1,4 +1,5 @@
 pub mod KeyMessages
+pub mod Laws
 pub mod PredicateKeys
 pub mod Query
 pub mod Reading

@@ -1,10 +1,11 @@
-//! Queries, and the text that names them.
+//! Queries, the text that names them, and the keys by which servers answer them.
 #![tactic(auto)]
 
 mod draft;
 mod form;
 mod key;
 mod keys;
+pub mod laws;
 mod message;
 mod pair;
 mod predicate;
@@ -21,5 +22,7 @@ pub use read::read_query;
 pub use server_keys::ServerKeys;
 pub use weights::key_of;
 
+#[cfg(test)]
+mod message_tests;
 #[cfg(test)]
 mod tests;

@@ -1,8 +1,7 @@
 // What a server reads from its key message.
 
-ghost use Rattle.std.specs.Prelude.{◌≡◌, ◌<◌, ◌≤◌, ◌+◌, ◌*◌, All, IfErr, IfOk, length};
-ghost use Rattle.table_schema.specs.declared.shapes.Part.{Part};
-ghost use Rattle.query_plan.specs.KeyMessages.{keys_read, message_length, pair_read, pairs_read, part_length, parts_of, run_length, HasMessageFault, HasColumn};
+ghost use Rattle.std.specs.Prelude.{◌≡◌, ◌<◌, ◌≤◌, ◌+◌, ◌*◌, ℕ, All, IfErr, IfOk, length};
+ghost use Rattle.query_plan.specs.KeyMessages.{keys_read, message_length, pair_read, pairs_read, part_at, part_length, run_length, HasMessageFault, HasColumn};
 
 use crate::key::{KeyPair, key_length, read_key};
 use crate::server_keys::ServerKeys;
@@ -41,7 +40,7 @@ pub fn read_message(
     words: &[u128],
 ) -> Result<ServerKeys, MessageFault>
     requires few { shape.now.count ≤ 4 }
-    requires there { All (HasColumn widths.now.columns) (parts_of shape.now) }
+    requires there { (j : ℕ) → j < shape.now.count → (part_at shape.now j).column < widths.now.columns }
     ensures keys { IfOk result (λ k. k ≡ keys_read shape.now widths.now.bits words.now) }
     ensures long { IfOk result (λ _. length words.now ≡ message_length shape.now widths.now.bits) }
     ensures shape { IfOk result (λ k. (length k.run0 ≡ shape.now.count) × (length k.run1 ≡ shape.now.count)) }

@@ -12,6 +12,7 @@ mod product;
 mod ready;
 mod rounds;
 mod run;
+mod servers;
 mod shelves;
 mod way;
 
@@ -20,5 +21,5 @@ pub use opened::{Opened, OpenedPair};
 pub use product::Product;
 pub use ready::Ready;
 pub use run::both_runs;
-pub use shelves::Servers;
+pub use servers::Servers;
 pub use way::Way;

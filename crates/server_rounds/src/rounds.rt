@@ -13,7 +13,7 @@ use crate::held::{Held, reshare};
 use crate::keys::ThreeKeys;
 use crate::part::{bits_part, opening_part, product_part};
 use crate::plan::Plan;
-use crate::shelves::Servers;
+use crate::servers::Servers;
 use crate::way::Way;
 use ring128::{Memory, add};
 use scan_chunks::Shelf;

@@ -6,10 +6,15 @@
 
 mod ends;
 
+ghost use Rattle.std.specs.Prelude.{◌≡◌, IfOk, length};
+
 use ends::{Reading, Writing};
+use ring128::Memory;
+use std::alloc::Global;
 use std::process::ExitCode;
 use std::{env, io};
 use waldo_run::run_still;
+use wire_line::StraightWire;
 
 // The command words, without the program's name.
 fn words_of(rt: &HostRuntime) -> io::Result<Vec<String>> {
@@ -34,14 +39,34 @@ fn read_words(rt: &HostRuntime) -> io::Result<Vec<String>> {
     }
 }
 
-/// Ends with the status of the top call, and with 6, putting nothing, where there is no memory for the words.
-fn main(rt: HostRuntime) -> ExitCode {
-    match read_words(&rt) {
-        Ok(words) => {
-            let mut source = Reading::new(rt.stdin());
-            let mut sink = Writing::new(rt.stdout());
-            ExitCode::from(run_still(rt.alloc(), &words, &mut source, &mut sink))
-        }
-        Err(_) => ExitCode::from(6),
+// The sixteen wires of the top call, which alter nothing.
+fn straight_wires(alloc: Global) -> Result<Vec<StraightWire>, Memory>
+    ensures { IfOk result (λ wires. length wires.items ≡ 16) }
+{
+    let mut wires = Vec::with_capacity(alloc, 16)?;
+    for _ in 0..16 {
+        wires.push(StraightWire::new())?;
     }
+    Ok(wires)
+}
+
+/// Ends with the status of the top call, and with 6, putting nothing, where there is no memory for the words or the wires.
+fn main(rt: HostRuntime) -> ExitCode {
+    let Ok(words) = read_words(&rt) else {
+        return ExitCode::from(6);
+    };
+    let Ok(mut wires) = straight_wires(rt.alloc()) else {
+        return ExitCode::from(6);
+    };
+    let mut source = Reading::new(rt.stdin());
+    let mut sink = Writing::new(rt.stdout());
+    let status = run_still(
+        &rt,
+        rt.alloc(),
+        &words,
+        &mut source,
+        &mut sink,
+        &mut wires,
+    );
+    ExitCode::from(status)
 }

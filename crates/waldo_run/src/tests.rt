@@ -5,6 +5,8 @@ use row_source::{MemorySource, SureSource};
 use std::alloc::Global;
 use std::process::Abort;
 use std::test::Fail;
+use std::thread::Threads;
+use wire_line::{RecordWire, Shift, ShiftWire, Shifts, StraightWire, Wire};
 
 const INPUT: &str = "host,value\n3,10\n1,20\n3,5\n";
 
@@ -15,7 +17,7 @@ const TIME: &str = "ask|time:8@1700000000/3600|--query|count time=1700000000";
 /// Words, an input, the status and the text that is put.
 type Case = (&'static str, &'static str, u8, &'static str);
 
-const CASES: [Case; 21] = [
+const CASES: [Case; 27] = [
     (COUNT, INPUT, 0, "ask 0 rows 3 count 2\n"),
     (COUNT, "host,value\n", 0, "ask 0 rows 0 count 0\n"),
     (
@@ -82,6 +84,42 @@ const CASES: [Case; 21] = [
         0,
         "ask 0 rows 2 count 1\n",
     ),
+    (
+        "ask|host:2|--query|sum host=3",
+        INPUT,
+        0,
+        "ask 0 rows 3 sum 15\n",
+    ),
+    (
+        "ask|x:8|--query|sum x=255",
+        "x,value\n255,4294967295\n255,4294967295\n",
+        0,
+        "ask 0 rows 2 sum 8589934590\n",
+    ),
+    (
+        "ask|host:2|--query|sum host=0..3",
+        INPUT,
+        0,
+        "ask 0 rows 3 sum 35\n",
+    ),
+    (
+        "ask|host:2|--query|sum host<=1",
+        INPUT,
+        0,
+        "ask 0 rows 3 sum 20\n",
+    ),
+    (
+        "ask|host:2|--query|count host=3..1",
+        INPUT,
+        2,
+        "waldo: bad word 3\n",
+    ),
+    (
+        "ask|a:8,b:8,c:8,d:8|--query|sum a<=1 b=2..3 c=9 d=4..4",
+        "a,b,c,d,value\n1,2,9,4,5\n0,3,9,4,70\n1,4,9,4,600\n2,2,9,4,8000\n",
+        0,
+        "ask 0 rows 4 sum 75\n",
+    ),
 ];
 
 // The words of a text, cut at each bar; none for the empty text.
@@ -96,11 +134,48 @@ fn words_of(alloc: Global, text: &str) -> Result<Vec<String>, Memory> {
     Ok(words)
 }
 
-// The status and the text of a run, of whose source and sink the reads and puts with these numbers fail.
-fn runs(
-    rt: &impl Abort,
+// Sixteen wires that alter nothing.
+fn straight_wires(alloc: Global) -> Result<Vec<StraightWire>, Memory> {
+    let mut wires = Vec::new(alloc);
+    for _ in 0..16 {
+        wires.push(StraightWire::new())?;
+    }
+    Ok(wires)
+}
+
+fn record_wires(alloc: Global) -> Result<Vec<RecordWire>, Memory> {
+    let mut wires = Vec::new(alloc);
+    for _ in 0..16 {
+        wires.push(RecordWire::new(alloc))?;
+    }
+    Ok(wires)
+}
+
+// Sixteen wires that keep their messages, of which the first adds each amount to the first word of a message.
+fn shift_wires(alloc: Global, amounts: &[(u64, u128)]) -> Result<Vec<ShiftWire<RecordWire>>, Memory> {
+    let mut wires = Vec::new(alloc);
+    for i in 0..16 {
+        let mut shifts = Shifts::new(alloc);
+        for (message, amount) in amounts {
+            if i == 0 {
+                shifts.push(Shift {
+                    message: *message,
+                    word: 0,
+                    amount: *amount,
+                })?;
+            }
+        }
+        wires.push(ShiftWire::over(alloc, RecordWire::new(alloc), shifts))?;
+    }
+    Ok(wires)
+}
+
+// The status and the text of a run over these wires, of whose source and sink the reads and puts with these numbers fail.
+fn runs<R: Abort + Threads + Sync, W: Wire>(
+    rt: &R,
     alloc: Global,
     case: &Case,
+    wires: &mut Vec<W>,
     reads: &[u64],
     puts: &[u64],
 ) -> Result<(), Memory> {
@@ -108,8 +183,9 @@ fn runs(
     let list = words_of(alloc, words)?;
     let mut source = MemorySource::new(alloc, input.as_bytes(), reads)?;
     let mut sink = MemorySink::new(alloc, 1000, puts)?;
+    assert_eq!(rt; wires.len(), 16);
     assert_eq!(rt;
-        run_still(alloc, &list, &mut source, &mut sink),
+        run_still(rt, alloc, &list, &mut source, &mut sink, wires),
         status,
         "{words}"
     );
@@ -117,10 +193,23 @@ fn runs(
     Ok(())
 }
 
+fn straight<R: Abort + Threads + Sync>(
+    rt: &R,
+    alloc: Global,
+    case: &Case,
+    reads: &[u64],
+    puts: &[u64],
+) -> Result<(), Memory> {
+    let mut wires = straight_wires(alloc)?;
+    runs(rt, alloc, case, &mut wires, reads, puts)
+}
+
 #[test]
 fn answers_and_refusals(rt: HostRuntime) -> Result<(), Fail> {
     for case in &CASES {
-        runs(&rt, rt.alloc(), case, &[], &[]).ok().ok_or("memory")?;
+        straight(&rt, rt.alloc(), case, &[], &[])
+            .ok()
+            .ok_or("memory")?;
     }
     Ok(())
 }
@@ -128,21 +217,161 @@ fn answers_and_refusals(rt: HostRuntime) -> Result<(), Fail> {
 #[test]
 fn faults(rt: HostRuntime) -> Result<(), Fail> {
     let alloc = rt.alloc();
-    runs(
-        &rt,
+    let cases: [(Case, &[u64], &[u64]); 3] = [
+        ((COUNT, INPUT, 3, "waldo: read fault\n"), &[1], &[]),
+        ((COUNT, INPUT, 4, ""), &[], &[0]),
+        (("ask|host:9", INPUT, 2, ""), &[0], &[0]),
+    ];
+    for (case, reads, puts) in &cases {
+        straight(&rt, alloc, case, reads, puts)
+            .ok()
+            .ok_or("memory")?;
+    }
+    Ok(())
+}
+
+// The numbers of words of the messages of a run: those of the first wire, and none on the others.
+fn lengths<R: Abort + Threads + Sync>(
+    rt: &R,
+    alloc: Global,
+    case: &Case,
+    lengths: &[usize],
+) -> Result<(), Memory> {
+    let mut wires = record_wires(alloc)?;
+    runs(rt, alloc, case, &mut wires, &[], &[])?;
+    let messages = wires[0].messages();
+    assert_eq!(rt; messages.len(), lengths.len());
+    for (message, length) in messages.iter().zip(lengths) {
+        assert_eq!(rt; message.sent.len(), *length);
+        assert_eq!(rt; message.received.len(), *length);
+    }
+    for wire in &wires[1..] {
+        assert!(rt; wire.messages().is_empty());
+    }
+    Ok(())
+}
+
+#[test]
+fn messages(rt: HostRuntime) -> Result<(), Fail> {
+    let alloc = rt.alloc();
+    let cases: [(Case, &[usize]); 4] = [
+        (
+            (COUNT, INPUT, 0, "ask 0 rows 3 count 2\n"),
+            &[40, 40, 40, 3, 3, 3, 1, 1, 1, 3, 3, 3, 1, 1, 1],
+        ),
+        (
+            (COUNT, "host,value\n", 0, "ask 0 rows 0 count 0\n"),
+            &[40, 40, 40, 0, 0, 0, 1, 1, 1, 0, 0, 0, 1, 1, 1],
+        ),
+        (
+            (
+                "ask|host:2,level:1|--query|sum host=3 level=1",
+                "host,level,value\n3,1,10\n3,0,20\n1,1,40\n3,1,80\n",
+                0,
+                "ask 0 rows 4 sum 90\n",
+            ),
+            &[
+                64, 64, 64, 4, 4, 4, 4, 4, 4, 4, 4, 4, 1, 1, 1, 4, 4, 4, 4, 4, 4, 4, 4, 4, 1, 1, 1,
+            ],
+        ),
+        ((COUNT, "", 5, "waldo: header\n"), &[]),
+    ];
+    for (case, expected) in &cases {
+        lengths(&rt, alloc, case, expected).ok().ok_or("memory")?;
+    }
+    Ok(())
+}
+
+// The key of the one predicate: the number of the first two words of its weight's seed, made odd.
+const KEY: u128 = 11186861279801934813;
+
+#[test]
+fn alterations(rt: HostRuntime) -> Result<(), Fail> {
+    let alloc = rt.alloc();
+    let cases: [(Case, &[(u64, u128)]); 4] = [
+        (
+            (
+                COUNT,
+                INPUT,
+                7,
+                "ask 0 rows 3 altered total 3 weighted 22373722559603869626\n",
+            ),
+            &[(6, 1)],
+        ),
+        // Made good in the second run: the limit of the check.
+        (
+            (COUNT, INPUT, 0, "ask 0 rows 3 count 3\n"),
+            &[(6, 1), (12, KEY)],
+        ),
+        // The relation is kept, and the total is 2^64 and more.
+        (
+            (
+                COUNT,
+                INPUT,
+                7,
+                "ask 0 rows 3 altered total 18446744073709551618 weighted 206361167016597191147065126915094677434\n",
+            ),
+            &[(6, 1 << 64), (12, KEY << 64)],
+        ),
+        // A second that a count of one predicate doesn't use, made good at the opening.
+        (
+            (COUNT, INPUT, 0, "ask 0 rows 3 count 2\n"),
+            &[(3, 1)],
+        ),
+    ];
+    for (case, amounts) in &cases {
+        let mut wires = shift_wires(alloc, amounts).ok().ok_or("memory")?;
+        runs(&rt, alloc, case, &mut wires, &[], &[])
+            .ok()
+            .ok_or("memory")?;
+    }
+    Ok(())
+}
+
+// A day of readings: a row each 15 minutes of 16 hosts and 5 levels in turn.
+fn day(alloc: Global) -> Result<String, Memory> {
+    let mut text = String::from_str(alloc, "time,host,level,value\n")?;
+    for i in 0..200u64 {
+        writeln!(
+            text,
+            "{},{},{},{}",
+            1_700_000_000 + 900 * i,
+            i % 16,
+            i % 5,
+            100 + i
+        )?;
+    }
+    Ok(text)
+}
+
+#[test]
+fn an_interval_of_a_day(rt: HostRuntime) -> Result<(), Fail> {
+    let alloc = rt.alloc();
+    let words = words_of(
         alloc,
-        &(COUNT, INPUT, 3, "waldo: read fault\n"),
-        &[1],
-        &[],
+        "ask|time:8@1700000000/3600,host:4,level:3|--query|sum time=1700000000..1700086399 host=3 level<=2",
     )
     .ok()
     .ok_or("memory")?;
-    runs(&rt, alloc, &(COUNT, INPUT, 4, ""), &[], &[0])
+    let text = day(alloc).ok().ok_or("memory")?;
+    let mut source = SureSource::new(alloc, text.as_bytes())
         .ok()
         .ok_or("memory")?;
-    runs(&rt, alloc, &("ask|host:9", INPUT, 2, ""), &[0], &[0])
-        .ok()
-        .ok_or("memory")?;
+    let mut sink = MemorySink::new(alloc, 1000, &[]).ok().ok_or("memory")?;
+    let mut wires = straight_wires(alloc).ok().ok_or("memory")?;
+    assert_eq!(&rt; wires.len(), 16);
+    assert_eq!(&rt;
+        run_still(
+            &rt,
+            alloc,
+            &words,
+            &mut source,
+            &mut sink,
+            &mut wires
+        ),
+        0
+    );
+    assert!(&rt; sink.bytes() == b"ask 0 rows 200 sum 453\n".as_slice());
     Ok(())
 }
 
@@ -154,7 +383,19 @@ fn a_byte_too_many(rt: HostRuntime) -> Result<(), Fail> {
     bytes.resize(16_777_217, b'\n')?;
     let mut source = SureSource::new(alloc, &bytes).ok().ok_or("memory")?;
     let mut sink = MemorySink::new(alloc, 1000, &[]).ok().ok_or("memory")?;
-    assert_eq!(&rt; run_still(alloc, &words, &mut source, &mut sink), 5);
+    let mut wires = straight_wires(alloc).ok().ok_or("memory")?;
+    assert_eq!(&rt; wires.len(), 16);
+    assert_eq!(&rt;
+        run_still(
+            &rt,
+            alloc,
+            &words,
+            &mut source,
+            &mut sink,
+            &mut wires
+        ),
+        5
+    );
     assert!(&rt; sink.bytes() == b"waldo: input too long\n".as_slice());
     Ok(())
 }

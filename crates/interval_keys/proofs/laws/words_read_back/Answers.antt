@@ -1,0 +1,5 @@
+use Rattle.interval_keys.proofs.Back.{words_read_back}
+use Rattle.interval_keys.proofs.laws.words_read_back.Goals as goal
+
+pub returns : goal.returns
+returns c = words_read_back c.words_read_back.ensures

@@ -1,0 +1,27 @@
+-- What point keys of any roots do.
+use Rattle.std.specs.Prelude.{ℕ, ◌≡◌, ◌<◌, ◌^◌, length}
+use Rattle.prg_chacha.specs.declared.seed.Seed.{Seed}
+use Rattle.ring128.specs.Laws.{IsKeyPair}
+use Rattle.ring128.specs.declared.party.Party.{Party}
+use Rattle.ring128.specs.declared.party.Party.TheVariants.{Zero, One}
+use Rattle.key_tree.specs.Keys.{Key}
+use Rattle.key_tree.specs.Seeds.{IsSeed}
+use Rattle.key_tree.specs.declared.level.Level.{Level}
+use Rattle.point_keys.specs.Points.{value_of, point_key, point_at}
+use Rattle.point_keys.specs.PointWords.{length_of, words_of_key, key_of_words}
+
+-- the values of the two keys add up to the point function
+abbrev pub KeysAddUp : Type 0
+KeysAddUp =
+    (bits a weight : ℕ) (r s : Seed) → a < 2 ^ bits → weight < 2 ^ 128
+    → IsKeyPair bits (value_of (point_key Zero bits a weight r s) Zero) (value_of (point_key One bits a weight r s) One) (point_at a weight)
+
+-- a key of so many bits that its words give again
+pub record IsReadBack (bits : ℕ) (k : Key Level) : Type 0 where
+  pub levels : length k.levels ≡ bits
+  pub long : length (words_of_key k) ≡ length_of bits
+  pub undone : key_of_words bits (words_of_key k) ≡ k
+
+-- the words of a key give the key again
+abbrev pub WordsReadBack : Type 0
+WordsReadBack = (party : Party) (bits a weight : ℕ) (r s : Seed) → IsSeed r → IsSeed s → IsReadBack bits (point_key party bits a weight r s)
