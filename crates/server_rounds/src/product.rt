@@ -104,7 +104,10 @@ impl Product {
             × IfOk result (λ opened. IsOpened ms opened.total) }
     {
         let Product {
-            plan, run, chain, ..
+            plan,
+            run,
+            chain,
+            ..
         } = self;
         let total = opening_round(alloc, &plan, &ready.keys, &chain, shelves, wire, run)?;
         Ok(Opened { total })
