@@ -40,3 +40,6 @@ pub use ready::Ready;
 pub use run::both_runs;
 pub use servers::Servers;
 pub use way::Way;
+
+#[cfg(test)]
+mod tests;
