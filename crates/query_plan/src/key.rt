@@ -26,7 +26,7 @@ pub struct KeyPair {
 
 impl PredicateKey {
     /// The values of a party's key at all buckets, in order.
-    pub fn table(&self, alloc: Global, party: Party) -> Result<Words, Memory>
+    pub(crate) fn table(&self, alloc: Global, party: Party) -> Result<Words, Memory>
         ensures { IfOk result (λ w. w ≡ table_of party self.now) }
     {
         match self {
@@ -39,7 +39,7 @@ impl PredicateKey {
 
 impl KeyPair {
     /// The values at all buckets, in order, of the key of that party.
-    pub fn table(&self, alloc: Global, party: Party) -> Result<Words, Memory>
+    pub(crate) fn table(&self, alloc: Global, party: Party) -> Result<Words, Memory>
         ensures { IfOk result (λ w. w ≡ table_of party (key_in party self.now)) }
     {
         match party {
@@ -50,7 +50,7 @@ impl KeyPair {
 }
 
 /// How many words the key of a predicate of this kind has, over a column of so many bits.
-pub fn key_length(kind: Kind, bits: u8) -> u64
+pub(crate) fn key_length(kind: Kind, bits: u8) -> u64
     ensures { result ≡ length_of kind bits }
 {
     match kind {

@@ -1,10 +1,11 @@
-ghost use Rattle.std.specs.Prelude.{◌≡◌, ◌<◌, IfOk};
+ghost use Rattle.std.specs.Prelude.{◌≡◌, ◌<◌, ◌%◌, IfOk, length};
+ghost use Rattle.query_plan.specs.KeyMessages.{message_length, message_words, view_of};
 ghost use Rattle.query_plan.specs.Query.{Suits, shaped};
 ghost use Rattle.query_plan.specs.Seeds.{weights_of};
-ghost use Rattle.query_plan.specs.Views.{key_from};
-ghost use Rattle.query_plan.specs.KeyMessages.{message_words};
+ghost use Rattle.query_plan.specs.Views.{AreKeys, key_from};
 
 use crate::draft::Draft;
+use crate::laws;
 use crate::query::{Query, shape_of};
 use crate::weights::key_of;
 use prg_chacha::Seed;
@@ -26,7 +27,7 @@ pub struct Keys {
 }
 
 impl Model for Keys {
-    ghost use Rattle.std.specs.Prelude.{◌≡◌};
+    ghost use Rattle.std.specs.Prelude.{◌≡◌, length};
     ghost use Rattle.query_plan.specs.KeyMessages.{Asked, message_words};
     ghost use Rattle.query_plan.specs.Query.{Suits};
 
@@ -35,12 +36,15 @@ impl Model for Keys {
     ghost view = { λ a. record { query = a.query; widths = a.widths; seed = a.seed } };
 
     ghost invariant = { λ a. Suits a.widths.columns a.widths.bits a.query
+        × (length a.query.predicates ≡ 4)
         × (a.zero ≡ message_words a.query a.widths.bits a.seed 0)
         × (a.one ≡ message_words a.query a.widths.bits a.seed 1)
         × (a.two ≡ message_words a.query a.widths.bits a.seed 2) };
 }
 
-/// Makes the keys of a query that suits the widths, from the query's seed. The only error is want of memory.
+/// Makes the keys of a query that suits the widths, from the query's seed. What the three servers read from their
+/// messages are keys of this query, with weight 1 in run 0 and with the weights of the seed in run 1. The only error
+/// is want of memory.
 pub fn make_keys(
     alloc: Global,
     query: &Query,
@@ -48,8 +52,12 @@ pub fn make_keys(
     seed: &Seed,
 ) -> Result<Keys, Memory>
     requires suits { Suits widths.now.columns widths.now.bits query.now }
-    ensures { IfOk result (λ k. k ≡ record { query = query.now; widths = widths.now; seed = seed.now }) }
+    ensures made { IfOk result (λ k. k ≡ record { query = query.now; widths = widths.now; seed = seed.now }) }
+    ensures add_up { IfOk result (λ _. AreKeys widths.now.bits
+        (λ k. view_of (shaped query.now) widths.now.bits (message_words query.now widths.now.bits seed.now k))
+        query.now (weights_of seed.now)) }
 {
+    laws::keys_add_up();
     let mut draft = Draft::new(alloc, seed)?;
     draft.push_run(alloc, query, widths, seed, 0)?;
     draft.push_run(alloc, query, widths, seed, 1)?;
@@ -65,9 +73,10 @@ pub fn make_keys(
 }
 
 impl Keys {
-    /// The key: the product of the weights of run 1, by which the client tests the two totals.
+    /// The key: the product of the weights of run 1, by which the client tests the two totals. It is odd.
     pub fn key(&self) -> u128
-        ensures { result ≡ key_from (weights_of self.now.seed 1) self.now.query.count }
+        ensures key { result ≡ key_from (weights_of self.now.seed 1) self.now.query.count }
+        ensures odd { result % 2 ≡ 1 }
     {
         key_of(&self.query, &self.seed)
     }
@@ -92,8 +101,10 @@ impl Keys {
     /// those of its key of party 1 for the next server's share. The only error is want of memory.
     pub fn message(&self, alloc: Global, server: u8) -> Result<Words, Memory>
         requires { server < 3 }
-        ensures { IfOk result (λ w. w ≡ message_words self.now.query self.now.widths.bits self.now.seed server) }
+        ensures words { IfOk result (λ w. w ≡ message_words self.now.query self.now.widths.bits self.now.seed server) }
+        ensures length { IfOk result (λ w. length w ≡ message_length (shaped self.now.query) self.now.widths.bits) }
     {
+        laws::messages_are_long();
         let words = match server {
             0 => self.zero.as_slice(),
             1 => self.one.as_slice(),

@@ -14,7 +14,7 @@ mod read;
 mod server_keys;
 mod weights;
 
-pub use key::{KeyPair, PredicateKey, key_length};
+pub use key::{KeyPair, PredicateKey};
 pub use keys::{Keys, make_keys};
 pub use message::{MessageFault, read_message};
 pub use query::{Predicate, Query, QueryFault, QueryWhy, shape_of};

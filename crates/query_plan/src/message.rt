@@ -107,12 +107,7 @@ fn read_run(
 }
 
 // The two keys of a part that a list of words begins with.
-fn read_pair(
-    alloc: Global,
-    widths: &Widths,
-    part: &Part,
-    words: &[u128],
-) -> Result<KeyPair, Memory>
+fn read_pair(alloc: Global, widths: &Widths, part: &Part, words: &[u128]) -> Result<KeyPair, Memory>
     requires there { HasColumn widths.now.columns part.now }
     requires long { 2 * part_length widths.now.bits part.now ≤ length words.now }
     ensures { IfOk result (λ p. p ≡ pair_read widths.now.bits part.now words.now) }

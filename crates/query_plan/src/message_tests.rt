@@ -19,8 +19,12 @@ fn sums(alloc: Global, keys: &ServerKeys, run: u8, j: u8) -> Result<Vec<u128>, F
     if run > 1 || j as usize >= keys.count() {
         return Err("no such keys".into());
     }
-    let zero = keys.table(alloc, run, j, Party::Zero).map_err(|_| "no memory")?;
-    let one = keys.table(alloc, run, j, Party::One).map_err(|_| "no memory")?;
+    let zero = keys
+        .table(alloc, run, j, Party::Zero)
+        .map_err(|_| "no memory")?;
+    let one = keys
+        .table(alloc, run, j, Party::One)
+        .map_err(|_| "no memory")?;
     for (x, y) in zero.as_slice().iter().zip(one.as_slice()) {
         sums.push(add(*x, *y)).map_err(|_| "no memory")?;
     }
@@ -29,8 +33,10 @@ fn sums(alloc: Global, keys: &ServerKeys, run: u8, j: u8) -> Result<Vec<u128>, F
 
 // Appends the words of two keys.
 fn append(to: &mut Vec<u128>, first: &Words, second: &Words) -> Result<(), Fail> {
-    to.extend_from_slice(first.as_slice()).map_err(|_| "no memory")?;
-    to.extend_from_slice(second.as_slice()).map_err(|_| "no memory")?;
+    to.extend_from_slice(first.as_slice())
+        .map_err(|_| "no memory")?;
+    to.extend_from_slice(second.as_slice())
+        .map_err(|_| "no memory")?;
     Ok(())
 }
 
@@ -124,8 +130,14 @@ fn one_point(rt: HostRuntime) -> Result<(), Fail> {
     assert_eq!(rt; own.halves(), (1, 2));
     assert_eq!(rt; next.halves(), (3, 4));
     assert_eq!(rt; keys.count(), 1);
-    assert_eq!(rt; sums(alloc, &keys, 0, 0)?.as_slice(), [0, 0, 0, 1].as_slice());
-    assert_eq!(rt; sums(alloc, &keys, 1, 0)?.as_slice(), [0, 0, 0, 5].as_slice());
+    assert_eq!(rt;
+        sums(alloc, &keys, 0, 0)?.as_slice(),
+        [0, 0, 0, 1].as_slice()
+    );
+    assert_eq!(rt;
+        sums(alloc, &keys, 1, 0)?.as_slice(),
+        [0, 0, 0, 5].as_slice()
+    );
     for had in [0, 39] {
         let short = read(alloc, "host:2", "count host=3", &words.as_slice()[..had])?;
         let fault = Some(MessageFault::Length {
@@ -143,9 +155,13 @@ fn control_words(rt: HostRuntime) -> Result<(), Fail> {
     let alloc = rt.alloc();
     let mut words = [7; 40];
     words[8] = 1;
-    let one = read(alloc, "host:2", "count host=3", &words)?.ok().ok_or("keys")?;
+    let one = read(alloc, "host:2", "count host=3", &words)?
+        .ok()
+        .ok_or("keys")?;
     words[8] = 9;
-    let nine = read(alloc, "host:2", "count host=3", &words)?.ok().ok_or("keys")?;
+    let nine = read(alloc, "host:2", "count host=3", &words)?
+        .ok()
+        .ok_or("keys")?;
     let of_one = sums(alloc, &one, 0, 0)?;
     let of_nine = sums(alloc, &nine, 0, 0)?;
     assert_eq!(rt; of_one.len(), 4);
@@ -169,8 +185,8 @@ fn every_kind(rt: HostRuntime) -> Result<(), Fail> {
         "sum host=1 level<=0 time=1..2",
         words.as_slice(),
     )?
-        .ok()
-        .ok_or("keys")?;
+    .ok()
+    .ok_or("keys")?;
     assert_eq!(rt; keys.count(), 3);
     for (run, weight) in [(0, 1), (1, 5)] {
         let point = [0, weight, 0, 0];

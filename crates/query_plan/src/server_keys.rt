@@ -36,12 +36,7 @@ impl Model for ServerKeys {
 
 impl ServerKeys {
     // The keys of these parts.
-    pub(crate) fn new(
-        own: Seed,
-        next: Seed,
-        run0: Vec<KeyPair>,
-        run1: Vec<KeyPair>,
-    ) -> ServerKeys
+    pub(crate) fn new(own: Seed, next: Seed, run0: Vec<KeyPair>, run1: Vec<KeyPair>) -> ServerKeys
         requires { length run1.items ≡ length run0.items }
         ensures { result ≡ record { own = own; next = next; run0 = run0.items; run1 = run1.items } }
     {

@@ -1,9 +1,10 @@
 // The weights of a query's predicates, and the key that they make.
 
-ghost use Rattle.std.specs.Prelude.{◌≡◌, ◌<◌};
+ghost use Rattle.std.specs.Prelude.{◌≡◌, ◌<◌, ◌%◌};
 ghost use Rattle.query_plan.specs.Seeds.{weights_of};
 ghost use Rattle.query_plan.specs.Views.{key_from};
 
+use crate::laws;
 use crate::query::Query;
 use prg_chacha::{Seed, derive};
 use ring128::mul;
@@ -20,10 +21,12 @@ pub(crate) fn weight(seed: &Seed, run: u8, j: u8) -> u128
     low % (1u128 << 64) / 2 * 2 + 1
 }
 
-/// The key of a query: the product of its predicates' weights in run 1, modulo 2^128.
+/// The key of a query: the product of its predicates' weights in run 1, modulo 2^128. It is odd.
 pub fn key_of(query: &Query, seed: &Seed) -> u128
-    ensures { result ≡ key_from (weights_of seed.now 1) query.now.count }
+    ensures key { result ≡ key_from (weights_of seed.now 1) query.now.count }
+    ensures odd { result % 2 ≡ 1 }
 {
+    laws::keys_are_odd();
     let mut key = 1;
     for j in 0..query.count {
         key = mul(key, weight(seed, 1, j));

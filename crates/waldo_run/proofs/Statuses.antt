@@ -16,6 +16,7 @@ use Rattle.wire_line.specs.Messages.{IsHonest}
 use Rattle.waldo_run.specs.Asking.{key_for}
 use Rattle.waldo_run.specs.Replies.{Reply, reply_for, reply_to, reply_to_input, reply_unread, reads_input, rows_in, IsRefused, RefusesInput, answered, checked_answer, plain_answer, Suits, after_failed_put}
 use Rattle.onehot_column.specs.Code.{word_of}
+use Rattle.query_plan.specs.Laws.{KeysAddUp}
 use Rattle.transcript.specs.Plain.{plain}
 use Rattle.waldo_run.specs.Run.{Asked, AskedOver}
 use Rattle.waldo_run.proofs.Plainly.{honest_checked, plainly}
@@ -191,18 +192,18 @@ over_told answer (Err fault) reading source told suits reads sure e = refl
 over_told answer (Ok command) reading source told suits reads sure e =
     ap (reply_to answer (Ok command)) (told_by command reading (reads_input command) told (λ some. read_told reading source told some reads sure e) suits)
 
-pub plain_of : (command : Result Command WordFault) (source sink : Change) (carried : List Message → Type 0) (status : ℕ)
+pub plain_of : KeysAddUp → (command : Result Command WordFault) (source sink : Change) (carried : List Message → Type 0) (status : ℕ)
     → Runs command source carried sink status → (Rose source.before source.now → ⊥) → ((ms : List Message) → carried ms → IsHonest ms)
     → (told : List ℕ) → source.old ≡ Some told → Puts (plain_reply command told) sink status
-plain_of command source sink carried status run sure honest told e =
+plain_of keys command source sink carried status run sure honest told e =
     let r = run.replies in
-    let plain = plainly command r.reading r.messages r.pair r.asked (honest r.messages r.sent) in
+    let plain = plainly keys command r.reading r.messages r.pair r.asked (honest r.messages r.sent) in
     subst (λ reply. Puts reply sink status) (r.is ∙ plain ∙ over_told plain_answer command r.reading source told r.suits r.reads sure e) run.puts
 
 -- the status is that of the reply
 of_reply : (command : Result Command WordFault) (source sink : Change) (carried : List Message → Type 0) (status : ℕ) (run : Runs command source carried sink status)
     → status ≢ 4 → (reply_to (checked_answer run.replies.pair) command run.replies.reading).status ≡ status
-of_reply command source sink carried status run no = sym (ap (λ r. r.status) run.replies.is) ∙ sym (own_status run.reply sink status no run.puts)
+of_reply command source sink carried status run written = sym (ap (λ r. r.status) run.replies.is) ∙ sym (own_status run.reply sink status written run.puts)
 
 pub refused_of : (command : Result Command WordFault) (source sink : Change) (carried : List Message → Type 0) (status : ℕ)
     → Runs command source carried sink status → status ≡ 2 → IsErr command
@@ -255,26 +256,26 @@ pub unread_of : (command : Result Command WordFault) (source sink : Change) (car
 unread_of command source sink carried status run e = unread_by command run.replies.reading source run.replies.suits run.replies.reads e
 
 -- a refused pair belongs to messages of which one was altered
-not_altered : (pair : OpenedPair) (command : Command) (reading : Reading) (ms : List Message) → Asked (Ok command) ms pair reading → IsHonest ms → AlteredAt pair command reading → ⊥
-not_altered pair command Untouched ms asked honest a = a
-not_altered pair command Long ms asked honest a = a
-not_altered pair command Broken ms asked honest a = a
-not_altered pair (commands.Ask ask) (Whole bytes) ms asked honest a = by_rows (rows_in ask.schema bytes) asked a
+not_altered : KeysAddUp → (pair : OpenedPair) (command : Command) (reading : Reading) (ms : List Message) → Asked (Ok command) ms pair reading → IsHonest ms → AlteredAt pair command reading → ⊥
+not_altered keys pair command Untouched ms asked honest a = a
+not_altered keys pair command Long ms asked honest a = a
+not_altered keys pair command Broken ms asked honest a = a
+not_altered keys pair (commands.Ask ask) (Whole bytes) ms asked honest a = by_rows (rows_in ask.schema bytes) asked a
   where
     by_rows : (rows : Result (List Row) RowFault) → AskedOver ask ms pair rows → IsAltered pair ask rows → ⊥
     by_rows (Err fault) o i = i
-    by_rows (Ok rows) o i = absurd (let e : checked pair.total pair.weighted (key_for ask) ≡ Ok (word_of (plain ask.query rows)) = honest_checked ask rows ms pair o honest in search rules)
+    by_rows (Ok rows) o i = absurd (let e : checked pair.total pair.weighted (key_for ask) ≡ Ok (word_of (plain ask.query rows)) = honest_checked keys ask rows ms pair o honest in search rules)
 
-altered_of : (pair : OpenedPair) (command : Result Command WordFault) (reading : Reading) (ms : List Message) → Suits command reading
+altered_of : KeysAddUp → (pair : OpenedPair) (command : Result Command WordFault) (reading : Reading) (ms : List Message) → Suits command reading
     → Asked command ms pair reading → (reply_to (checked_answer pair) command reading).status ≡ 7 → IsHonest ms → ⊥
-altered_of pair (Err fault) reading ms suits asked e honest = elim (refusal_status (checked_answer pair) fault 7 e) [ inl p ↦ omega arith | inr p ↦ omega arith ]
-altered_of pair (Ok command) reading ms suits asked e honest = not_altered pair command reading ms asked honest ((known pair command reading suits).seven e)
+altered_of keys pair (Err fault) reading ms suits asked e honest = elim (refusal_status (checked_answer pair) fault 7 e) [ inl p ↦ omega arith | inr p ↦ omega arith ]
+altered_of keys pair (Ok command) reading ms suits asked e honest = not_altered keys pair command reading ms asked honest ((known pair command reading suits).seven e)
 
-pub seven_of : (command : Result Command WordFault) (source sink : Change) (carried : List Message → Type 0) (status : ℕ)
+pub seven_of : KeysAddUp → (command : Result Command WordFault) (source sink : Change) (carried : List Message → Type 0) (status : ℕ)
     → Runs command source carried sink status → status ≡ 7 → ((ms : List Message) → carried ms → IsHonest ms) → ⊥
-seven_of command source sink carried status run e honest =
+seven_of keys command source sink carried status run e honest =
     let r = run.replies in
-    altered_of r.pair command r.reading r.messages r.suits r.asked (of_reply command source sink carried status run (λ four. omega arith) ∙ e) (honest r.messages r.sent)
+    altered_of keys r.pair command r.reading r.messages r.suits r.asked (of_reply command source sink carried status run (λ four. omega arith) ∙ e) (honest r.messages r.sent)
 
 pub if_some : (o : Option (List ℕ)) (P : List ℕ → Type 0) → ((x : List ℕ) → o ≡ Some x → P x) → IfSome o P
 if_some None P f = tt

@@ -35,6 +35,7 @@ setup_of ask w rows = setup_for ask.query w query_seed (length rows) (pieces_ove
 -- rows that a table of the command's columns holds, and over which its query is legal
 pub record IsOver (ask : Ask) (rows : List Row) (w : Widths) : Type 0 where
   pub widths : AreWidthsOf ask.schema w
+  pub places : length ask.query.predicates ≡ 4
   pub suits : Suits w.columns w.bits ask.query
   pub held : All (Holds w) rows
   pub few : length rows ≤ 65536

@@ -5,7 +5,7 @@ use Rattle.fault_count.specs.Causes.{Rose}
 use Rattle.report_lines.specs.Line.{text_of}
 use Rattle.report_lines.specs.Sink.{AppendsFront}
 use Rattle.row_source.specs.Input.{Reading, Reads, most_bytes}
-use Rattle.row_source.specs.Input.Reading.{Untouched, Whole, Long}
+use Rattle.row_source.specs.Input.Reading.{Untouched, Whole, Long, Broken}
 use Rattle.row_source.specs.declared.faults.RowFault.{RowFault}
 use Rattle.server_rounds.specs.declared.opened.OpenedPair.{OpenedPair}
 use Rattle.table_schema.specs.declared.rows.Row.{Row}

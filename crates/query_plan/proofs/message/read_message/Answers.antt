@@ -23,8 +23,8 @@ all_there columns shape there =
     let none : Part = record { column = 0; kind = Point } in
     All-from_get_or (HasColumn columns) (parts_of shape) none
     (λ i h.
-      let within : i < shape.count = omega (arith, h, length-take shape.count shape.parts) in
-      subst (HasColumn columns) (sym (get_or-take shape.count shape.parts i none within)) (there i within))
+    let within : i < shape.count = omega (arith, h, length-take shape.count shape.parts) in
+    subst (HasColumn columns) (sym (get_or-take shape.count shape.parts i none within)) (there i within))
 
 pub run_length-run-requires-clause-there : goal.run_length-run-requires-clause-there
 run_length-run-requires-clause-there c = all_there c.args.widths.now.columns c.args.shape.now c.requires.there

@@ -27,22 +27,22 @@ returns-in_err-two-clause-messages g c =
 pub returns-in_err-got-clause-messages : goal.returns-in_err-got-clause-messages
 returns-in_err-got-clause-messages g c =
     let h = c.in_err-got.ensures.messages in
-    (h.0, h.1, regroup _ _ _ h.0 h.2 (three_same _ _ c.in_ok-zero.ensures c.in_ok-one.ensures c.in_ok-two.ensures), search rules)
+    (h.0, h.1, regroup _ _ _ h.0 h.2 (three_same _ _ c.in_ok-zero.ensures.words c.in_ok-one.ensures.words c.in_ok-two.ensures.words), search rules)
 
 pub returns-in_err-zero_read-clause-messages : goal.returns-in_err-zero_read-clause-messages
 returns-in_err-zero_read-clause-messages g c =
     let h = c.in_ok-got.ensures.messages in
-    (h.0, h.1, regroup _ _ _ h.0 h.2 (three_same _ _ c.in_ok-zero.ensures c.in_ok-one.ensures c.in_ok-two.ensures), search rules)
+    (h.0, h.1, regroup _ _ _ h.0 h.2 (three_same _ _ c.in_ok-zero.ensures.words c.in_ok-one.ensures.words c.in_ok-two.ensures.words), search rules)
 
 pub returns-in_err-one_read-clause-messages : goal.returns-in_err-one_read-clause-messages
 returns-in_err-one_read-clause-messages g c =
     let h = c.in_ok-got.ensures.messages in
-    (h.0, h.1, regroup _ _ _ h.0 h.2 (three_same _ _ c.in_ok-zero.ensures c.in_ok-one.ensures c.in_ok-two.ensures), search rules)
+    (h.0, h.1, regroup _ _ _ h.0 h.2 (three_same _ _ c.in_ok-zero.ensures.words c.in_ok-one.ensures.words c.in_ok-two.ensures.words), search rules)
 
 pub returns-in_err-two_read-clause-messages : goal.returns-in_err-two_read-clause-messages
 returns-in_err-two_read-clause-messages g c =
     let h = c.in_ok-got.ensures.messages in
-    (h.0, h.1, regroup _ _ _ h.0 h.2 (three_same _ _ c.in_ok-zero.ensures c.in_ok-one.ensures c.in_ok-two.ensures), search rules)
+    (h.0, h.1, regroup _ _ _ h.0 h.2 (three_same _ _ c.in_ok-zero.ensures.words c.in_ok-one.ensures.words c.in_ok-two.ensures.words), search rules)
 
 pub returns-clause-messages : goal.returns-clause-messages
 returns-clause-messages g c =
@@ -55,7 +55,7 @@ returns-clause-messages g c =
     let a2 = ap view_from c.in_ok-two_read.ensures.keys ∙ ap (λ (z : Sizes). view_of z.shape z.widths.bits got.two) same ∙ ap (read_for asked) (sym h.3.at2) in (
       h.0,
       h.1,
-      regroup _ _ _ h.0 h.2 (three_same _ _ c.in_ok-zero.ensures c.in_ok-one.ensures c.in_ok-two.ensures),
+      regroup _ _ _ h.0 h.2 (three_same _ _ c.in_ok-zero.ensures.words c.in_ok-one.ensures.words c.in_ok-two.ensures.words),
       record { full = h.3.full; seen = three_same _ (λ k. read_for asked (message_at h.0 k).received) a0 a1 a2 },
     )
 

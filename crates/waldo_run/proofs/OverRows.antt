@@ -1,18 +1,19 @@
 -- The messages over the shelves of three servers are those over the rows.
-use Rattle.std.proofs.Common.{◌≡◌, ◌∙◌, refl, sym, ap, subst, ℕ, zero, suc, ◌+◌, ◌%◌, ◌<◌, ◌≤◌, List, [], ◌∷◌, All, length, map, get_or, take, append-nil, arith}
+use Rattle.std.proofs.Common.{◌≡◌, ◌∙◌, refl, sym, ap, subst, ℕ, zero, suc, ◌+◌, ◌*◌, ◌%◌, ◌<◌, ◌≤◌, List, [], ◌∷◌, All, length, map, get_or, take, append-nil, arith}
 use Rattle.std.proofs.lemmas.Bool.{lt-ltb}
 use Rattle.std.proofs.lemmas.List.{get_or-map}
 use Rattle.list_facts.specs.Count.{total}
 use Rattle.prg_chacha.specs.declared.seed.Seed.{Seed}
 use Rattle.onehot_column.specs.Code.{width_of}
 use Rattle.query_plan.specs.KeyMessages.{Asked}
-use Rattle.query_plan.specs.Query.{IsNext, IsPlaced, Suits, part_of, predicate_at, shaped}
+use Rattle.query_plan.specs.Query.{IsNext, IsPlaced, Suits, no_predicate, part_of, predicate_at, shaped}
 use Rattle.query_plan.specs.declared.query.Query.{Query}
 use Rattle.scan_chunks.specs.Pieces.{Pieces}
 use Rattle.scan_chunks.specs.Shelf.{Held}
 use Rattle.server_rounds.specs.Groups.{by_server}
 use Rattle.server_rounds.specs.Shelves.{AreShelves, pieces_of}
 use Rattle.table_schema.specs.declared.rows.Row.{Row}
+use Rattle.table_schema.specs.declared.shapes.Part.{Part}
 use Rattle.table_schema.specs.declared.widths.Widths.{Widths}
 use Rattle.transcript.specs.Laws.{HasColumns, SamePieces}
 use Rattle.transcript.specs.Rows.{cells_over, pieces_over}
@@ -35,8 +36,8 @@ are_shelves w k entries hs has =
     rw has.alone
     (record {
       count = omega (arith, keeps.rows);
-      columns = one_all _ has.shelf keeps.columns;
-      wide = λ column le. one_all _ has.shelf (keeps.width column le);
+      columns = one_all (λ (h : Held). h.columns ≡ w.columns) has.shelf keeps.columns;
+      wide = λ column le. one_all (λ (h : Held). h.width column ≡ width_of w column) has.shelf (keeps.width column le);
       order = (keeps.start, (λ more. absurd (omega (arith, more))), record {});
     })
 
@@ -71,31 +72,38 @@ same_pieces w entries s0 s1 s2 h0 h1 h2 = record { first = first; second = secon
     second (suc (suc (suc k))) column h le = absurd (omega arith)
 
 -- the columns of a legal query are there
-has_columns : (query : Query) (w : Widths) (rows : ℕ) → Suits w.columns w.bits query → HasColumns (record { rows = rows; widths = w; shape = shaped query })
-has_columns query w rows suits j lt =
+has_columns : (query : Query) (w : Widths) (rows : ℕ) → length query.predicates ≡ 4 → Suits w.columns w.bits query → HasColumns (record { rows = rows; widths = w; shape = shaped query })
+has_columns query w rows places suits j lt =
     let placed : IsPlaced w.columns w.bits query j = suits.placed j (omega (arith, suits.few)) in
     let next : IsNext w.columns w.bits (take j query.predicates) (predicate_at query j) = rw (lt-ltb j query.count lt) at placed in
-    next.legal.column
+    let there : j < length query.predicates = omega (arith, suits.few) in
+    let column : (get_or (map part_of query.predicates) j (part_of no_predicate)).column ≡ (predicate_at query j).column = ap (λ (p : Part). p.column) (get_or-map part_of query.predicates j no_predicate _ there) in
+    subst (λ (c : ℕ). c < w.columns) (sym column) next.legal.column
 
 -- the messages over the shelves are those over the rows
 pub over_rows : (ask : Ask) (w : Widths) (rows : List Row) (keys : Asked) (n : ℕ) (pieces : ℕ → Pieces) (ms : List Message) → IsOver ask rows w
     → keys ≡ record { query = ask.query; widths = w; seed = query_seed } → n ≡ length rows
     → SamePieces w.columns pieces (pieces_over w (entries_of master rows))
     → IsPart (setup_for keys.query keys.widths keys.seed n pieces) ms → IsPart (setup_of ask w rows) ms
-over_rows ask w rows keys n pieces ms over refl refl same part =
-    columns_suffice (setup_for ask.query w query_seed (length rows) pieces) (pieces_over w (entries_of master rows)) ms (has_columns ask.query w (length rows) over.suits) same part
+over_rows ask w rows keys n pieces ms over made many same part =
+    let here : IsPart (setup_for ask.query w query_seed (length rows) pieces) ms = rw (made, many) at part in
+    columns_suffice (setup_for ask.query w query_seed (length rows) pieces) (pieces_over w (entries_of master rows)) ms
+    (has_columns ask.query w (length rows) over.places over.suits) same here
 
 pub all_over_rows : (ask : Ask) (w : Widths) (rows : List Row) (keys : Asked) (n : ℕ) (pieces : ℕ → Pieces) (ms : List Message) → IsOver ask rows w
     → keys ≡ record { query = ask.query; widths = w; seed = query_seed } → n ≡ length rows
     → SamePieces w.columns pieces (pieces_over w (entries_of master rows))
     → IsTranscript (setup_for keys.query keys.widths keys.seed n pieces) ms → IsTranscript (setup_of ask w rows) ms
-all_over_rows ask w rows keys n pieces ms over refl refl same all = record { part = over_rows ask w rows keys n pieces ms over refl refl same all.part; full = all.full }
+all_over_rows ask w rows keys n pieces ms over made many same all = record {
+  part = over_rows ask w rows keys n pieces ms over made many same all.part;
+  full = all.full ∙ ap (λ (k : Asked). 3 + 12 * k.query.count) made;
+}
 
 -- what they open
 pub same_opened : (ask : Ask) (w : Widths) (rows : List Row) (keys : Asked) (n run : ℕ) (pieces : ℕ → Pieces) (ms : List Message)
     → keys ≡ record { query = ask.query; widths = w; seed = query_seed } → n ≡ length rows
     → opened_of (setup_for keys.query keys.widths keys.seed n pieces) ms run ≡ opened_of (setup_of ask w rows) ms run
-same_opened ask w rows keys n run pieces ms refl refl = refl
+same_opened ask w rows keys n run pieces ms made many = ap (λ (k : Asked). opened_of (setup_for k.query k.widths k.seed n pieces) ms run) made
 
 -- no message is part of any query's
 pub no_part : (s : Setup) → IsPart s []
