@@ -158,7 +158,7 @@ module _ (known : Known) (query : Query) (w : Widths) (seed : Seed) (four : leng
   run_read k run tail =
       subst
       (λ (n : ℕ). pairs_read w.bits (parts_of (shaped query)) (flat_map (pair_words query w.bits seed k run) (range_with_len 0 n) ++ tail)
-        ≡ map (pair_of query w.bits seed k run) (range_with_len 0 n))
+      ≡ map (pair_of query w.bits seed k run) (range_with_len 0 n))
       (length-parts query four suits.few)
       (run_back w.bits (parts_of (shaped query)) _ (pair_of query w.bits seed k run) 0 tail (pairs_back k run))
 

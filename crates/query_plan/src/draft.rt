@@ -14,6 +14,10 @@ use ring128::{Memory, Words};
 use std::alloc::Global;
 use table_schema::Widths;
 
+// The most words of a key message: two seeds of two words, and in each of two runs two keys for each of four predicates, of
+// at most 70 words each (an interval over 8 bits).
+const MOST_WORDS: usize = 4 + 2 * 2 * 4 * 70;
+
 /// The words of the three key messages so far.
 #[derive(Drop)]
 pub(crate) struct Draft {
@@ -83,14 +87,16 @@ impl Draft {
     }
 }
 
-// The words of the seeds of zero of server k and of the next one.
+// The words of the seeds of zero of server k and of the next one, with room for all that a message may have.
 fn seeds(alloc: Global, seed: &Seed, k: u8) -> Result<Vec<u128>, Memory>
     requires { k < 3 }
     ensures { IfOk result (λ w. w.items ≡ seed_words seed.now k) }
 {
     let (own_low, own_high) = derive(seed, 16, u16::from(k), 0).halves();
     let (next_low, next_high) = derive(seed, 16, u16::from((k + 1) % 3), 0).halves();
-    Ok(vec![in alloc; own_low, own_high, next_low, next_high]?)
+    let mut words = Vec::with_capacity(alloc, MOST_WORDS)?;
+    words.extend_from_slice(&[own_low, own_high, next_low, next_high])?;
+    Ok(words)
 }
 
 // The words of the keys of party 0 and party 1 of a predicate for a share in a run.

@@ -1,8 +1,9 @@
-ghost use Rattle.std.specs.Prelude.{◌≡◌, ◌<◌, ◌%◌, IfOk, length};
-ghost use Rattle.query_plan.specs.KeyMessages.{message_length, message_words, view_of};
+ghost use Rattle.std.specs.Prelude.{◌≡◌, ◌<◌, ◌≤◌, ◌%◌, ℕ, IfOk, length};
+ghost use Rattle.query_plan.specs.KeyMessages.{message_length, message_words, part_at};
+ghost use Rattle.query_plan.specs.Laws.{AreKeysOf};
 ghost use Rattle.query_plan.specs.Query.{Suits, shaped};
 ghost use Rattle.query_plan.specs.Seeds.{weights_of};
-ghost use Rattle.query_plan.specs.Views.{AreKeys, key_from};
+ghost use Rattle.query_plan.specs.Views.{key_from};
 
 use crate::draft::Draft;
 use crate::laws;
@@ -45,17 +46,10 @@ impl Model for Keys {
 /// Makes the keys of a query that suits the widths, from the query's seed. What the three servers read from their
 /// messages are keys of this query, with weight 1 in run 0 and with the weights of the seed in run 1. The only error
 /// is want of memory.
-pub fn make_keys(
-    alloc: Global,
-    query: &Query,
-    widths: &Widths,
-    seed: &Seed,
-) -> Result<Keys, Memory>
+pub fn make_keys(alloc: Global, query: &Query, widths: &Widths, seed: &Seed) -> Result<Keys, Memory>
     requires suits { Suits widths.now.columns widths.now.bits query.now }
     ensures made { IfOk result (λ k. k ≡ record { query = query.now; widths = widths.now; seed = seed.now }) }
-    ensures add_up { IfOk result (λ _. AreKeys widths.now.bits
-        (λ k. view_of (shaped query.now) widths.now.bits (message_words query.now widths.now.bits seed.now k))
-        query.now (weights_of seed.now)) }
+    ensures add_up { IfOk result AreKeysOf }
 {
     laws::keys_add_up();
     let mut draft = Draft::new(alloc, seed)?;
@@ -81,11 +75,16 @@ impl Keys {
         key_of(&self.query, &self.seed)
     }
 
-    /// What is not secret of the query.
+    /// What is not secret of the query. What the three servers read from their messages by this shape are keys of the
+    /// query.
     pub fn shape(&self) -> Shape
         ensures shape { result ≡ shaped self.now.query }
         ensures suits { Suits self.now.widths.columns self.now.widths.bits self.now.query }
+        ensures few { result.count ≤ 4 }
+        ensures there { (j : ℕ) → j < result.count → (part_at result j).column < self.now.widths.columns }
+        ensures add_up { AreKeysOf self.now }
     {
+        laws::keys_add_up();
         shape_of(&self.query)
     }
 

@@ -23,6 +23,8 @@ pub use server_keys::ServerKeys;
 pub use weights::key_of;
 
 #[cfg(test)]
+mod keys_tests;
+#[cfg(test)]
 mod message_tests;
 #[cfg(test)]
 mod tests;

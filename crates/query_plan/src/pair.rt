@@ -48,13 +48,13 @@ pub(crate) fn generate(
     } = *predicate;
     match kind {
         Kind::Point => {
-            let (zero, one) =
-                point_keys::generate(alloc, bits, low, weight, &roots[0], &roots[1])?;
+            let (zero, one) = point_keys::generate(alloc, bits, low, weight, &roots[0], &roots[1])?;
             Ok((PredicateKey::Point(zero), PredicateKey::Point(one)))
         }
         Kind::AtMost => {
-            let (zero, one) =
-                compare_keys::generate(alloc, bits, high, weight, &roots[0], &roots[1])?;
+            let (zero, one) = compare_keys::generate(
+                alloc, bits, high, weight, &roots[0], &roots[1],
+            )?;
             Ok((PredicateKey::AtMost(zero), PredicateKey::AtMost(one)))
         }
         Kind::Interval => {

@@ -91,9 +91,6 @@ legal_query rows w query few suits = record {
 }
 
 -- a key message is as long as its reader wants it
-pub sent_long : MessagesAreLong → (asked : Asked) (z : Sizes) (rows k : ℕ) (sent got : List ℕ) → length (map part_of asked.query.predicates) ≡ 4
-    → Suits asked.widths.columns asked.widths.bits asked.query → z ≡ sizes_for asked rows → sent ≡ words_for asked k → length got ≡ length sent
-    → length got ≡ message_length z.shape z.widths.bits
-sent_long law asked z rows k sent got four suits same made long =
-    long ∙ ap length made ∙ law asked.query asked.widths asked.seed k (sym (length-map asked.query.predicates part_of) ∙ four) suits
-    ∙ sym (ap (λ (p : Sizes). message_length p.shape p.widths.bits) same)
+pub sent_long : (asked : Asked) (z : Sizes) (rows : ℕ) (sent got : List ℕ) → z ≡ sizes_for asked rows
+    → length sent ≡ message_length (shaped asked.query) asked.widths.bits → length got ≡ length sent → length got ≡ message_length z.shape z.widths.bits
+sent_long asked z rows sent got same wanted long = long ∙ wanted ∙ sym (ap (λ (p : Sizes). message_length p.shape p.widths.bits) same)

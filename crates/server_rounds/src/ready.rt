@@ -15,7 +15,6 @@ use crate::rounds::bits_round;
 use crate::servers::Servers;
 use crate::way::Way;
 use query_plan::Keys;
-use query_plan::laws::messages_are_long;
 use ring128::Memory;
 use scan_chunks::Shelf;
 use std::alloc::Global;
@@ -45,7 +44,6 @@ impl Ready {
             × IsGroup Way.ToServers (words_for keys.now) ms
             × IfOk result (λ ready. HaveRead (read_for keys.now) (views_of ready.keys) ms) }
     {
-        messages_are_long();
         let plan = Plan::new(rows, keys.widths(), keys.shape());
         let zero = keys.message(alloc, 0)?;
         let one = keys.message(alloc, 1)?;

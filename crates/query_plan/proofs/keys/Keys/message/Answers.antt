@@ -10,10 +10,11 @@ chosen : (c : goal.After-from_vec)
 chosen c =
     let k = c.self.inside in
     let words = λ (n : ℕ). message_words k.query k.widths.bits k.seed n in
-    elim c.match-server.branch
-    [ in-0 w ↦ let e : 0 ≡ c.args.server = omega arith in cc (ap words e)
-    | in-1 w ↦ let e : 1 ≡ c.args.server = omega arith in cc (ap words e)
-    | in_default w ↦ let e : 2 ≡ c.args.server = omega arith in cc (ap words e) ]
+    elim c.match-server.branch [
+      | in-0 w ↦ let e : 0 ≡ c.args.server = omega arith in cc (ap words e)
+      | in-1 w ↦ let e : 1 ≡ c.args.server = omega arith in cc (ap words e)
+      | in_default w ↦ let e : 2 ≡ c.args.server = omega arith in cc (ap words e)
+    ]
 
 pub returns-clause-length : goal.returns-clause-length
 returns-clause-length c =

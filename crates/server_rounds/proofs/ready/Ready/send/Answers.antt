@@ -61,21 +61,15 @@ returns-clause-messages g c =
 
 pub read_keys-requires : goal.read_keys-requires
 read_keys-requires g c =
-    let four : length c.shape.result.parts ≡ 4 = omega (arith, c.shape.type_inv) in
     let plan : c.new-plan.result ≡ sizes_for c.args.keys.now c.args.rows = c.new-plan.ensures ∙ rw (c.widths.ensures, c.shape.ensures.shape) in
-    sent_long c.messages_are_long.ensures c.args.keys.now c.new-plan.result c.args.rows 0 _ _ (ap length (sym (ap (λ (s : Shape). s.parts) c.shape.ensures.shape)) ∙ four)
-    c.shape.ensures.suits plan c.in_ok-zero.ensures c.in_ok-got.ensures.long.long0
+    sent_long c.args.keys.now c.new-plan.result c.args.rows _ _ plan c.in_ok-zero.ensures.length c.in_ok-got.ensures.long.long0
 
 pub read_keys-requires-2 : goal.read_keys-requires-2
 read_keys-requires-2 g c =
-    let four : length c.shape.result.parts ≡ 4 = omega (arith, c.shape.type_inv) in
     let plan : c.new-plan.result ≡ sizes_for c.args.keys.now c.args.rows = c.new-plan.ensures ∙ rw (c.widths.ensures, c.shape.ensures.shape) in
-    sent_long c.messages_are_long.ensures c.args.keys.now c.new-plan.result c.args.rows 1 _ _ (ap length (sym (ap (λ (s : Shape). s.parts) c.shape.ensures.shape)) ∙ four)
-    c.shape.ensures.suits plan c.in_ok-one.ensures c.in_ok-got.ensures.long.long1
+    sent_long c.args.keys.now c.new-plan.result c.args.rows _ _ plan c.in_ok-one.ensures.length c.in_ok-got.ensures.long.long1
 
 pub read_keys-requires-3 : goal.read_keys-requires-3
 read_keys-requires-3 g c =
-    let four : length c.shape.result.parts ≡ 4 = omega (arith, c.shape.type_inv) in
     let plan : c.new-plan.result ≡ sizes_for c.args.keys.now c.args.rows = c.new-plan.ensures ∙ rw (c.widths.ensures, c.shape.ensures.shape) in
-    sent_long c.messages_are_long.ensures c.args.keys.now c.new-plan.result c.args.rows 2 _ _ (ap length (sym (ap (λ (s : Shape). s.parts) c.shape.ensures.shape)) ∙ four)
-    c.shape.ensures.suits plan c.in_ok-two.ensures c.in_ok-got.ensures.long.long2
+    sent_long c.args.keys.now c.new-plan.result c.args.rows _ _ plan c.in_ok-two.ensures.length c.in_ok-got.ensures.long.long2
