@@ -1,6 +1,6 @@
 -- The tables of keys that were read.
 use Rattle.std.proofs.Common.{◌≡◌, ◌∙◌, ℕ, zero, suc, ◌+◌, ◌*◌, ◌^◌, ◌<◌, ◌≤◌, List, [], ◌∷◌, true, length, map, drop, get_or, ltb, lt-ltb, refl, sym, ap, arith}
-use Rattle.std.proofs.lemmas.List.{get_or-take, length-map}
+use Rattle.std.proofs.lemmas.List.{get_or-take}
 use Rattle.list_facts.proofs.Listed.{length-listed}
 use Rattle.table_schema.specs.declared.shapes.Kind.{Kind}
 use Rattle.table_schema.specs.declared.shapes.Kind.TheVariants.{Point, AtMost, Interval}
@@ -15,10 +15,9 @@ use Rattle.query_plan.specs.Query.{predicate_at, shaped, no_predicate, part_of, 
 use Rattle.query_plan.specs.declared.query.Predicate.{Predicate}
 use Rattle.query_plan.specs.declared.query.Query.{Query}
 use Rattle.table_schema.specs.declared.widths.Widths.{Widths}
-use Rattle.query_plan.specs.Laws.{MessagesAreLong}
 use Rattle.query_plan.specs.PredicateKeys.{bits_of, key_of_words, table_of}
 use Rattle.transcript.specs.Setup.{Sizes, count_of, column_of}
-use Rattle.server_rounds.specs.Plans.{AreLegal, HasTables, sizes_for, words_for}
+use Rattle.server_rounds.specs.Plans.{AreLegal, HasTables, sizes_for}
 
 -- the bits of a key
 bits_read : (kind : Kind) (n : ℕ) (ws : List ℕ) → bits_of (key_of_words kind n ws) ≡ n

@@ -1,11 +1,10 @@
-use Rattle.std.proofs.Common.{◌≡◌, ◌∙◌, ap, sym, [], length, refl, rules, arith}
+use Rattle.std.proofs.Common.{◌≡◌, ◌∙◌, ap, sym, [], refl, rules}
 use Rattle.wire_line.specs.Carried.{went_none}
 use Rattle.wire_line.specs.Messages.{message_at}
 use Rattle.query_plan.specs.KeyMessages.{view_from, view_of}
 use Rattle.transcript.specs.Setup.{Sizes}
 use Rattle.server_rounds.specs.Plans.{read_for, sizes_for}
 use Rattle.server_rounds.proofs.Messages.{group_none, regroup, three_same}
-use Rattle.table_schema.specs.declared.shapes.Shape.{Shape}
 use Rattle.server_rounds.proofs.Tables.{legal_query, sent_long}
 use Rattle.server_rounds.proofs.ready.Ready.send.Goals as goal
 
