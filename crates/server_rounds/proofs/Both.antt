@@ -1,7 +1,6 @@
 -- Both runs, one after the other.
-use Rattle.std.proofs.Common.{◌≡◌, ℕ, ◌+◌, ◌<◌, List, ◌++◌, length, refl, sym, ap, ◌∙◌, arith, length-append}
+use Rattle.std.proofs.Common.{◌≡◌, ℕ, ◌<◌, List, ◌++◌, length, refl, sym, ap, ◌∙◌, arith, length-append}
 use Rattle.wire_line.specs.declared.message.Message.{Message}
-use Rattle.wire_line.specs.Messages.{message_at}
 use Rattle.wire_line.specs.Carried.{message_before}
 use Rattle.scan_chunks.specs.Pieces.{Pieces}
 use Rattle.query_plan.specs.Views.{View}

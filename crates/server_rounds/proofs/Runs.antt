@@ -7,7 +7,7 @@ use Rattle.wire_line.specs.Carried.{message_before, message_after}
 use Rattle.scan_chunks.specs.Pieces.{Pieces}
 use Rattle.query_plan.specs.Views.{View}
 use Rattle.transcript.specs.Setup.{Sizes, count_of}
-use Rattle.transcript.specs.Steps.{bits, product, opening, place_of, chain_step, after}
+use Rattle.transcript.specs.Steps.{bits, product, opening, place_of, chain_step}
 use Rattle.transcript.specs.Formulas.{bits_words, product_words, opening_words}
 use Rattle.transcript.specs.Transcript.{IsPart}
 use Rattle.transcript.proofs.Places.{group-chain}

@@ -1,25 +1,23 @@
 -- The tables of keys that were read.
-use Rattle.std.proofs.Common.{◌≡◌, ◌∙◌, ℕ, zero, suc, ◌+◌, ◌*◌, ◌^◌, ◌<◌, ◌≤◌, List, [], ◌∷◌, Bool, true, length, map, All, take, drop, get_or, ltb, lt-ltb, length-take, refl, sym, ap, arith}
+use Rattle.std.proofs.Common.{◌≡◌, ◌∙◌, ℕ, zero, suc, ◌+◌, ◌*◌, ◌^◌, ◌<◌, ◌≤◌, List, [], ◌∷◌, true, length, map, drop, get_or, ltb, lt-ltb, refl, sym, ap, arith}
 use Rattle.std.proofs.lemmas.List.{get_or-take}
-use Rattle.std.proofs.lemmas.List.Elements.{All-from_get_or}
 use Rattle.list_facts.proofs.Listed.{length-listed}
 use Rattle.table_schema.specs.declared.shapes.Kind.{Kind}
 use Rattle.table_schema.specs.declared.shapes.Kind.TheVariants.{Point, AtMost, Interval}
 use Rattle.table_schema.specs.declared.shapes.Part.{Part}
-use Rattle.table_schema.specs.declared.shapes.Shape.{Shape}
 use Rattle.onehot_column.specs.Code.{width_of}
 use Rattle.onehot_column.proofs.CodeLaws.{width_below}
 use Rattle.ring128.specs.declared.party.Party.{Party}
 use Rattle.query_plan.specs.declared.key.KeyPair.{KeyPair}
 use Rattle.query_plan.specs.declared.key.PredicateKey.{PredicateKey}
-use Rattle.query_plan.specs.KeyMessages.{KeysRead, part_length, pair_at, pairs_read, keys_read, parts_of, run_length, view_from, HasColumn}
+use Rattle.query_plan.specs.KeyMessages.{Asked, KeysRead, message_length, part_length, pair_at, pairs_read, keys_read, parts_of, run_length, view_from}
 use Rattle.query_plan.specs.Query.{predicate_at, shaped, no_predicate, part_of, Suits, IsPlaced}
 use Rattle.query_plan.specs.declared.query.Predicate.{Predicate}
 use Rattle.query_plan.specs.declared.query.Query.{Query}
 use Rattle.table_schema.specs.declared.widths.Widths.{Widths}
 use Rattle.query_plan.specs.PredicateKeys.{bits_of, key_of_words, table_of}
 use Rattle.transcript.specs.Setup.{Sizes, count_of, column_of}
-use Rattle.server_rounds.specs.Plans.{AreLegal, HasTables}
+use Rattle.server_rounds.specs.Plans.{AreLegal, HasTables, sizes_for}
 
 -- the bits of a key
 bits_read : (kind : Kind) (n : ℕ) (ws : List ℕ) → bits_of (key_of_words kind n ws) ≡ n
@@ -71,17 +69,6 @@ has_tables z ws keys legal e n =
           ∙ ap (λ (n : ℕ). 2 ^ n) (pair_has z ws run j legal long h).party1 ∙ wide j h;
     }
 
--- the columns of the parts are there
-abbrev no_part : Part
-no_part = record { column = 0; kind = Point }
-
-pub have_columns : (z : Sizes) → AreLegal z → All (HasColumn z.widths.columns) (parts_of z.shape)
-have_columns z legal =
-    All-from_get_or (HasColumn z.widths.columns) (parts_of z.shape) no_part
-    (λ i h. let k : i < count_of z = omega (arith, length-take (count_of z) z.shape.parts) in
-    let same : get_or (parts_of z.shape) i no_part ≡ get_or z.shape.parts i no_part = get_or-take (count_of z) z.shape.parts i no_part k in
-    omega (arith, legal.there i k, ap (λ (p : Part). p.column) same))
-
 part_at : (ps : List Predicate) (j : ℕ) → get_or (map part_of ps) j (part_of no_predicate) ≡ part_of (get_or ps j no_predicate)
 part_at [] j = refl
 part_at (p ∷ ps) zero = refl
@@ -101,3 +88,8 @@ legal_query rows w query few suits = record {
   few = suits.few;
   there = λ j h. omega (arith, column_there w.columns w.bits query j suits h, ap (λ (p : Part). p.column) (part_at query.predicates j));
 }
+
+-- a key message is as long as its reader wants it
+pub sent_long : (asked : Asked) (z : Sizes) (rows : ℕ) (sent got : List ℕ) → z ≡ sizes_for asked rows
+    → length sent ≡ message_length (shaped asked.query) asked.widths.bits → length got ≡ length sent → length got ≡ message_length z.shape z.widths.bits
+sent_long asked z rows sent got same wanted long = long ∙ wanted ∙ sym (ap (λ (p : Sizes). message_length p.shape p.widths.bits) same)

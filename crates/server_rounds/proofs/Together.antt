@@ -8,10 +8,9 @@ use Rattle.std.proofs.lemmas.Slice.Zip.{AllZip-long}
 use Rattle.std.proofs.lemmas.List.Elements.{All-map, All-tail}
 use Rattle.list_facts.specs.Count.{total}
 use Rattle.list_facts.specs.Listed.{listed}
-use Rattle.scan_chunks.specs.Pieces.{Pieces}
 use Rattle.scan_chunks.specs.Shelf.{Held, IsShelf}
 use Rattle.scan_chunks.specs.Scan.{row_number, scan_of}
-use Rattle.scan_chunks.specs.Laws.{AreParts, PartsScanAsWhole}
+use Rattle.scan_chunks.specs.Laws.{AreParts}
 use Rattle.scan_chunks.proofs.Parts.{parts_scan}
 use Rattle.table_schema.specs.declared.widths.Widths.{Widths}
 use Rattle.onehot_column.specs.Code.{width_of}

@@ -64,7 +64,16 @@ impl Bits {
                 chain: bits,
             }),
             Some(earlier) => {
-                let chain = product_round(alloc, &plan, &ready.keys, &earlier, &bits, wire, run, j)?;
+                let chain = product_round(
+                    alloc,
+                    &plan,
+                    &ready.keys,
+                    &earlier,
+                    &bits,
+                    wire,
+                    run,
+                    j,
+                )?;
                 Ok(Product {
                     plan,
                     run,

@@ -33,12 +33,7 @@ impl Trio {
 }
 
 // Carries words, and gives those that were received.
-fn carry<W: Wire>(
-    wire: &mut W,
-    sender: Peer,
-    receiver: Peer,
-    words: Words,
-) -> Result<Words, Memory>
+fn carry<W: Wire>(wire: &mut W, sender: Peer, receiver: Peer, words: Words) -> Result<Words, Memory>
     ensures carried { IfOk result (λ got. Went W.told W.alterations W.passes wire.old (message_of sender receiver words got ∷ []) wire.new) }
     ensures long { IfOk result (λ got. length got ≡ length words) }
     ensures kept { OnErr result (Went W.told W.alterations W.passes wire.old [] wire.new) }

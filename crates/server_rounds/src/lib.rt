@@ -1,4 +1,21 @@
-//! Both runs of a query over three servers.
+//! Both runs of a query over three servers: the client sends each server its key message, the servers scan their shares of the
+//! rows, multiply what they found and send each other masked shares, and the client adds up what it receives. Run 0 opens the
+//! total and run 1 the weighted total. A query of P predicates has 3 + 12 P messages.
+//!
+//! The messages that it appends to a wire are a transcript as the crate `transcript` defines it, whatever the wire alters;
+//! after want of memory they are the first ones of it. It never looks into a message that it only carries, and tests no total.
+//!
+//! A run goes from state to state, and no other order can be written: `Ready::bits`, `Bits::product`, then for each further
+//! predicate `Product::bits` and `Bits::product`, and last `Product::reveal`. Shares, zero parts and products are those of Araki
+//! et al. 2016; the tables come from keys of Boyle et al. 2016 and 2021.
+//!
+//! ```text
+//! use server_rounds::{Servers, both_runs};
+//!
+//! let mut servers = Servers { zero, one, two };
+//! let pair = both_runs(&rt, alloc, &mut servers, &keys, &mut wire)?;
+//! // Where nothing was altered: pair.total is the answer, and pair.weighted is keys.key() times it.
+//! ```
 #![tactic(auto)]
 
 mod bits;
@@ -12,6 +29,7 @@ mod product;
 mod ready;
 mod rounds;
 mod run;
+mod servers;
 mod shelves;
 mod way;
 
@@ -20,5 +38,8 @@ pub use opened::{Opened, OpenedPair};
 pub use product::Product;
 pub use ready::Ready;
 pub use run::both_runs;
-pub use shelves::Servers;
+pub use servers::Servers;
 pub use way::Way;
+
+#[cfg(test)]
+mod tests;

@@ -1,10 +1,10 @@
-ghost use Rattle.std.specs.Prelude.{◌≡◌, ◌<◌, ◌≤◌, ◌+◌, ◌*◌, ◌^◌, IfOk};
+ghost use Rattle.std.specs.Prelude.{◌≡◌, ◌<◌, ◌≤◌, ◌+◌, ◌*◌, ◌^◌, length, IfOk};
 ghost use Rattle.transcript.specs.Setup.{count_of, column_of};
 ghost use Rattle.transcript.specs.Steps.{bits, product, opening, counter_of};
-ghost use Rattle.query_plan.specs.KeyMessages.{keys_read};
+ghost use Rattle.query_plan.specs.KeyMessages.{keys_read, message_length};
 ghost use Rattle.server_rounds.specs.Plans.{AreLegal, HasTables};
 
-use query_plan::{ServerKeys, read_message};
+use query_plan::{MessageFault, ServerKeys, read_message};
 use ring128::{Memory, Words};
 use std::alloc::Global;
 use std::marker::Model;
@@ -53,14 +53,17 @@ impl Plan {
         }
     }
 
-    /// What a server reads from the words that it received. The only error is want of memory.
+    /// What a server reads from the words that it received, which are as many as the client sent. The only error is want of
+    /// memory.
     pub(crate) fn read_keys(&self, alloc: Global, words: &Words) -> Result<ServerKeys, Memory>
+        requires { length words.now ≡ message_length self.now.shape self.now.widths.bits }
         ensures keys { IfOk result (λ k. k ≡ keys_read self.now.shape self.now.widths.bits words.now) }
         ensures tables { IfOk result (HasTables self.now) }
     {
         match read_message(alloc, &self.shape, &self.widths, words.as_slice()) {
             Ok(keys) => Ok(keys),
-            Err(_) => Err(Memory),
+            Err(MessageFault::Memory) => Err(Memory),
+            Err(MessageFault::Length { .. }) => unreachable!(),
         }
     }
 

@@ -13,7 +13,7 @@ use crate::opened::Opened;
 use crate::plan::Plan;
 use crate::ready::Ready;
 use crate::rounds::{bits_round, opening_round};
-use crate::shelves::Servers;
+use crate::servers::Servers;
 use crate::way::Way;
 use ring128::Memory;
 use scan_chunks::Shelf;
@@ -104,7 +104,10 @@ impl Product {
             × IfOk result (λ opened. IsOpened ms opened.total) }
     {
         let Product {
-            plan, run, chain, ..
+            plan,
+            run,
+            chain,
+            ..
         } = self;
         let total = opening_round(alloc, &plan, &ready.keys, &chain, shelves, wire, run)?;
         Ok(Opened { total })

@@ -12,7 +12,7 @@ use crate::carry::{Trio, carry_three};
 use crate::keys::ThreeKeys;
 use crate::plan::Plan;
 use crate::rounds::bits_round;
-use crate::shelves::Servers;
+use crate::servers::Servers;
 use crate::way::Way;
 use query_plan::Keys;
 use ring128::Memory;

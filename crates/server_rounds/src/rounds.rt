@@ -13,7 +13,7 @@ use crate::held::{Held, reshare};
 use crate::keys::ThreeKeys;
 use crate::part::{bits_part, opening_part, product_part};
 use crate::plan::Plan;
-use crate::shelves::Servers;
+use crate::servers::Servers;
 use crate::way::Way;
 use ring128::{Memory, add};
 use scan_chunks::Shelf;
@@ -120,7 +120,14 @@ pub(crate) fn opening_round<S: Shelf, W: Wire>(
         × IsGroup Way.ToClient (openings_of plan.now run (views_of keys.now) pieces chain.now) ms
         × IfOk result (λ total. IsOpened ms total) }
 {
-    let zero = opening_part(alloc, plan, &keys.zero, &mut shelves.zero, chain.zero(), run)?;
+    let zero = opening_part(
+        alloc,
+        plan,
+        &keys.zero,
+        &mut shelves.zero,
+        chain.zero(),
+        run,
+    )?;
     let one = opening_part(alloc, plan, &keys.one, &mut shelves.one, chain.one(), run)?;
     let two = opening_part(alloc, plan, &keys.two, &mut shelves.two, chain.two(), run)?;
     let total = opened(wire, Trio { zero, one, two })?;

@@ -14,15 +14,6 @@ use scan_chunks::{Shelf, Tables, read_column, scan_many};
 use std::alloc::Global;
 use std::thread::Threads;
 
-
-/// The shelves of the three servers, with equal numbers of rows.
-#[derive(Drop)]
-pub struct Servers<S> {
-    pub zero: Vec<S>,
-    pub one: Vec<S>,
-    pub two: Vec<S>,
-}
-
 /// How many rows shelves have together. Each says of itself that its columns are as long as its rows are wide.
 pub(crate) fn count_rows<S: Shelf>(shelves: &[S]) -> u64
     requires { total (λ s. (S.held s).rows) shelves.now ≤ 65536 }

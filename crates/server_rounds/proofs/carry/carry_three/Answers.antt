@@ -30,8 +30,7 @@ returns-clause-messages g c =
     let w1 = rw (c.sender-2.ensures, c.receiver-2.ensures) at c.in_ok-one.ensures.carried in
     let w2 = rw (c.sender-3.ensures, c.receiver-3.ensures) at c.in_ok-two.ensures.carried in
     let both = went_both g.W.Wire.told g.W.Wire.alterations g.W.Wire.passes g.met.W.Wire.both_pass _ _ _ (m0 ∷ []) (m1 ∷ []) w0 w1 in
-    let all = went_both g.W.Wire.told g.W.Wire.alterations g.W.Wire.passes g.met.W.Wire.both_pass _ _ _ (m0 ∷ m1 ∷ []) (m2 ∷ []) both w2 in
-    (
+    let all = went_both g.W.Wire.told g.W.Wire.alterations g.W.Wire.passes g.met.W.Wire.both_pass _ _ _ (m0 ∷ m1 ∷ []) (m2 ∷ []) both w2 in (
       m0 ∷ m1 ∷ m2 ∷ [],
       all,
       group_three way x y z _ _ _ c.in_ok-zero.ensures.long c.in_ok-one.ensures.long c.in_ok-two.ensures.long,

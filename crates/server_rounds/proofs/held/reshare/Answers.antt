@@ -1,4 +1,4 @@
-use Rattle.std.proofs.Common.{[], refl, ◌∙◌, rules}
+use Rattle.std.proofs.Common.{[], refl, rules}
 use Rattle.wire_line.specs.Carried.{went_none}
 use Rattle.server_rounds.proofs.Messages.{group_none, regroup, reshared, three_same}
 use Rattle.server_rounds.proofs.held.reshare.Goals as goal
@@ -17,11 +17,10 @@ pub returns-clause-messages : goal.returns-clause-messages
 returns-clause-messages g c =
     let h = c.in_ok-got.ensures.messages in
     let s = c.in_ok-sent.ensures in
-    let group = regroup _ _ _ h.0 h.2 (three_same _ _ s.zero s.one s.two) in
-    (
+    let group = regroup _ _ _ h.0 h.2 (three_same _ _ s.zero s.one s.two) in (
       h.0,
       h.1,
       group,
       reshared _ h.0 group h.3 c.accept_reshare.ensures.first c.accept_reshare.ensures.second c.accept_reshare-2.ensures.first c.accept_reshare-2.ensures.second
-      c.accept_reshare-3.ensures.first c.accept_reshare-3.ensures.second,
+          c.accept_reshare-3.ensures.first c.accept_reshare-3.ensures.second,
     )

@@ -1,4 +1,4 @@
-use Rattle.std.proofs.Common.{◌≡◌, refl, ap, sym, length, ◌∙◌, ℕ, map, arith}
+use Rattle.std.proofs.Common.{ap, sym, length, ◌∙◌, ℕ, map, arith}
 use Rattle.list_facts.proofs.Listed.{length-listed}
 use Rattle.onehot_column.specs.Code.{width_of}
 use Rattle.query_plan.specs.KeyMessages.{view_from}

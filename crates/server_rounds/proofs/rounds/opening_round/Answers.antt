@@ -1,4 +1,4 @@
-use Rattle.std.proofs.Common.{[], refl, ◌∙◌, rules}
+use Rattle.std.proofs.Common.{[], refl, rules}
 use Rattle.wire_line.specs.Carried.{went_none}
 use Rattle.server_rounds.proofs.Messages.{group_none, regroup, three_same}
 use Rattle.server_rounds.proofs.rounds.opening_round.Goals as goal

@@ -1,4 +1,4 @@
-use Rattle.std.proofs.Common.{◌≡◌, ◌∙◌, ◌<◌, ◌++◌, ℕ, List, map, ap, sym, subst, rules, arith}
+use Rattle.std.proofs.Common.{◌≡◌, ◌∙◌, ◌<◌, ◌++◌, map, ap, sym, subst, rules, arith}
 use Rattle.list_facts.specs.Count.{total}
 use Rattle.scan_chunks.specs.Shelf.{Held}
 use Rattle.wire_line.specs.Carried.{went_both}

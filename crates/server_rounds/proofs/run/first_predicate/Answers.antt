@@ -1,4 +1,4 @@
-use Rattle.std.proofs.Common.{◌++◌, rules}
+use Rattle.std.proofs.Common.{rules}
 use Rattle.wire_line.specs.Carried.{went_both}
 use Rattle.server_rounds.proofs.Messages.{none_matched, went_just}
 use Rattle.server_rounds.proofs.run.first_predicate.Goals as goal

@@ -1,4 +1,4 @@
-use Rattle.std.proofs.Common.{◌≡◌, ◌∙◌, ◌<◌, ◌++◌, ℕ, ap, rules, arith}
+use Rattle.std.proofs.Common.{◌≡◌, ◌∙◌, ◌<◌, ◌++◌, ap, rules, arith}
 use Rattle.wire_line.specs.Carried.{went_both}
 use Rattle.transcript.specs.Setup.{Sizes, count_of}
 use Rattle.server_rounds.proofs.Runs.{first_part, so_far_first, predicate_part, so_far_more, opening_part, run_ends}
@@ -119,8 +119,7 @@ returns-clause-messages g c =
     let o = rw (i.zero, i.one, i.two, i.plan, i.run) at c.in_ok-opened.ensures.messages in
     let all : c.loop-j._j ≡ count_of c.args.ready.now.plan = omega (arith, c.loop-j-test.false, c.count-count.ensures.value, c.count-count.ensures.some, c.loop-j.auto._j-end) in
     let so = rw all at i.messages.2 in
-    let went = went_both g.W.Wire.told g.W.Wire.alterations g.W.Wire.passes g.met.W.Wire.both_pass _ _ _ i.messages.0 o.0 i.messages.1 o.1 in
-    (
+    let went = went_both g.W.Wire.told g.W.Wire.alterations g.W.Wire.passes g.met.W.Wire.both_pass _ _ _ i.messages.0 o.0 i.messages.1 o.1 in (
       i.messages.0 ++ o.0,
       went,
       opening_part _ _ _ _ _ i.messages.0 o.0 c.requires.run so o.2,

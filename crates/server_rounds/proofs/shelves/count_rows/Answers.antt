@@ -1,6 +1,5 @@
-use Rattle.std.proofs.Common.{◌≡◌, ◌∙◌, ◌+◌, ◌<◌, length, take, get_or, ap, sym, subst, arith}
+use Rattle.std.proofs.Common.{◌+◌, ◌<◌, length, ap, subst, arith}
 use Rattle.std.proofs.lemmas.List.Elements.{All-more}
-use Rattle.list_facts.specs.Count.{total}
 use Rattle.scan_chunks.specs.Shelf.{IsShelf}
 use Rattle.server_rounds.proofs.Together.{total_more, total_below}
 use Rattle.server_rounds.proofs.shelves.count_rows.Goals as goal

@@ -1,4 +1,4 @@
-use Rattle.std.proofs.Common.{◌≡◌, ◌∙◌, ◌<◌, ◌≤◌, ◌++◌, ℕ, sym, ap, length, get_or, List, arith, length-append}
+use Rattle.std.proofs.Common.{◌≡◌, ◌∙◌, ◌<◌, ◌≤◌, ℕ, sym, ap, length, get_or, arith, length-append}
 use Rattle.std.proofs.lemmas.List.Elements.{All-same}
 use Rattle.scan_chunks.specs.Shelf.{Held, IsShelf}
 use Rattle.onehot_column.specs.Code.{width_of}

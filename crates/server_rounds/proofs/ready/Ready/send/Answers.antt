@@ -3,9 +3,9 @@ use Rattle.wire_line.specs.Carried.{went_none}
 use Rattle.wire_line.specs.Messages.{message_at}
 use Rattle.query_plan.specs.KeyMessages.{view_from, view_of}
 use Rattle.transcript.specs.Setup.{Sizes}
-use Rattle.server_rounds.specs.Plans.{read_for, sizes_for, views_of}
+use Rattle.server_rounds.specs.Plans.{read_for, sizes_for}
 use Rattle.server_rounds.proofs.Messages.{group_none, regroup, three_same}
-use Rattle.server_rounds.proofs.Tables.{legal_query}
+use Rattle.server_rounds.proofs.Tables.{legal_query, sent_long}
 use Rattle.server_rounds.proofs.ready.Ready.send.Goals as goal
 
 pub new-plan-requires : goal.new-plan-requires
@@ -51,10 +51,24 @@ returns-clause-messages g c =
     let same : c.new-plan.result ≡ sizes_for asked c.args.rows = c.new-plan.ensures ∙ rw (c.widths.ensures, c.shape.ensures.shape) in
     let a0 = ap view_from c.in_ok-zero_read.ensures.keys ∙ ap (λ (z : Sizes). view_of z.shape z.widths.bits got.zero) same ∙ ap (read_for asked) (sym h.3.at0) in
     let a1 = ap view_from c.in_ok-one_read.ensures.keys ∙ ap (λ (z : Sizes). view_of z.shape z.widths.bits got.one) same ∙ ap (read_for asked) (sym h.3.at1) in
-    let a2 = ap view_from c.in_ok-two_read.ensures.keys ∙ ap (λ (z : Sizes). view_of z.shape z.widths.bits got.two) same ∙ ap (read_for asked) (sym h.3.at2) in
-    (
+    let a2 = ap view_from c.in_ok-two_read.ensures.keys ∙ ap (λ (z : Sizes). view_of z.shape z.widths.bits got.two) same ∙ ap (read_for asked) (sym h.3.at2) in (
       h.0,
       h.1,
       regroup _ _ _ h.0 h.2 (three_same _ _ c.in_ok-zero.ensures.words c.in_ok-one.ensures.words c.in_ok-two.ensures.words),
       record { full = h.3.full; seen = three_same _ (λ k. read_for asked (message_at h.0 k).received) a0 a1 a2 },
     )
+
+pub read_keys-requires : goal.read_keys-requires
+read_keys-requires g c =
+    let plan : c.new-plan.result ≡ sizes_for c.args.keys.now c.args.rows = c.new-plan.ensures ∙ rw (c.widths.ensures, c.shape.ensures.shape) in
+    sent_long c.args.keys.now c.new-plan.result c.args.rows _ _ plan c.in_ok-zero.ensures.length c.in_ok-got.ensures.long.long0
+
+pub read_keys-requires-2 : goal.read_keys-requires-2
+read_keys-requires-2 g c =
+    let plan : c.new-plan.result ≡ sizes_for c.args.keys.now c.args.rows = c.new-plan.ensures ∙ rw (c.widths.ensures, c.shape.ensures.shape) in
+    sent_long c.args.keys.now c.new-plan.result c.args.rows _ _ plan c.in_ok-one.ensures.length c.in_ok-got.ensures.long.long1
+
+pub read_keys-requires-3 : goal.read_keys-requires-3
+read_keys-requires-3 g c =
+    let plan : c.new-plan.result ≡ sizes_for c.args.keys.now c.args.rows = c.new-plan.ensures ∙ rw (c.widths.ensures, c.shape.ensures.shape) in
+    sent_long c.args.keys.now c.new-plan.result c.args.rows _ _ plan c.in_ok-two.ensures.length c.in_ok-got.ensures.long.long2
