@@ -1,5 +1,5 @@
 //! A source over any reader and a sink over any writer, each with a count of its faults.
-ghost use Rattle.std.specs.Prelude.{◌≡◌, None};
+ghost use Rattle.std.specs.Prelude.{◌≡◌};
 
 use fault_count::raised;
 use report_lines::Sink;
@@ -15,7 +15,10 @@ pub struct Reading<R> {
 
 impl<R: Read> Reading<R> {
     /// A source with no fault so far.
-    pub fn new(inner: R) -> Reading<R> {
+    pub fn new(inner: R) -> Reading<R>
+        ensures left { ⟦<Reading<R> as Source>⟧.left result ≡ R.remaining inner }
+        ensures none { ⟦<Reading<R> as Source>⟧.fault_count result ≡ 0 }
+    {
         Reading { inner, faults: 0 }
     }
 }
@@ -40,7 +43,7 @@ impl<R: Read> Source for Reading<R> {
     }
 }
 
-/// A sink over a writer, which tells nothing of the bytes taken.
+/// A sink over a writer. It tells the bytes that the writer tells.
 #[derive(Drop)]
 pub struct Writing<W> {
     inner: W,
@@ -49,13 +52,16 @@ pub struct Writing<W> {
 
 impl<W: Write> Writing<W> {
     /// A sink with no fault so far.
-    pub fn new(inner: W) -> Writing<W> {
+    pub fn new(inner: W) -> Writing<W>
+        ensures taken { ⟦<Writing<W> as Sink>⟧.taken result ≡ W.contents inner }
+        ensures none { ⟦<Writing<W> as Sink>⟧.fault_count result ≡ 0 }
+    {
         Writing { inner, faults: 0 }
     }
 }
 
 impl<W: Write> Sink for Writing<W> {
-    ghost taken = { λ _. None };
+    ghost taken = { λ s. W.contents s.inner };
 
     ghost fault_count = { λ s. s.faults };
 
@@ -78,3 +84,6 @@ impl<W: Write> Sink for Writing<W> {
         Ok(())
     }
 }
+
+#[cfg(test)]
+mod tests;

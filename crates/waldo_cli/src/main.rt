@@ -5,6 +5,7 @@
 #![tactic(auto)]
 
 mod ends;
+mod unknown;
 
 ghost use Rattle.std.specs.Prelude.{◌≡◌, IfOk, length};
 
@@ -25,16 +26,9 @@ fn words_of(rt: &HostRuntime) -> io::Result<Vec<String>> {
     Ok(words)
 }
 
-// An argument that is no text can't be told from its neighbours: the whole line then counts as one unknown command.
-fn unknown_command(rt: &HostRuntime) -> io::Result<Vec<String>> {
-    let mut words = Vec::new(rt.alloc());
-    words.push(String::new(rt.alloc()))?;
-    Ok(words)
-}
-
 fn read_words(rt: &HostRuntime) -> io::Result<Vec<String>> {
     match words_of(rt) {
-        Err(error) if error.kind() == io::ErrorKind::InvalidData => unknown_command(rt),
+        Err(error) if error.kind() == io::ErrorKind::InvalidData => unknown::command(rt.alloc()),
         words => words,
     }
 }

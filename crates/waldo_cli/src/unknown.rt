@@ -1,0 +1,17 @@
+ghost use Rattle.std.specs.Prelude.{◌≡◌, Err, IfOk, map, string_bytes};
+ghost use Rattle.waldo_run.specs.Words.{command_of};
+ghost use Rattle.waldo_run.specs.declared.words.WordFault.TheVariants.{Word};
+
+use std::alloc::Global;
+use std::io;
+
+/// Words that are refused as an unknown command. They stand in for a line of which some argument is no text, since that
+/// one can't be told from its neighbours.
+#[tactic(auto, unfolding(waldo_run::specs::Words::command_of))]
+pub fn command(alloc: Global) -> io::Result<Vec<String>>
+    ensures { IfOk result (λ words. command_of (map string_bytes words.items) ≡ Err (Word 0)) }
+{
+    let mut words = Vec::new(alloc);
+    words.push(String::new(alloc))?;
+    Ok(words)
+}
