@@ -51,7 +51,7 @@ columns_suffice s pieces ms there same part = record {
   few = part.few;
   keys = part.keys;
   steps = λ run step k two h b carried.
-    let fits = part.steps run step k two h b carried in
-    let e : Same s.sizes.widths.columns (s.pieces k) (pieces k) = record { first = λ column c. same.first k column b c; second = λ column c. same.second k column b c } in
-    record { from = fits.from; to = fits.to; words = fits.words ∙ same_words s.sizes run (seat_of s ms run k) (pieces k) step h there e; long = fits.long };
+      let fits = part.steps run step k two h b carried in
+      let e : Same s.sizes.widths.columns (s.pieces k) (pieces k) = record { first = λ column c. same.first k column b c; second = λ column c. same.second k column b c } in
+      record { from = fits.from; to = fits.to; words = fits.words ∙ same_words s.sizes run (seat_of s ms run k) (pieces k) step h there e; long = fits.long };
 }

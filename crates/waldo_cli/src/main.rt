@@ -54,13 +54,6 @@ fn main(rt: HostRuntime) -> ExitCode {
     };
     let mut source = Reading::new(rt.stdin());
     let mut sink = Writing::new(rt.stdout());
-    let status = run_still(
-        &rt,
-        rt.alloc(),
-        &words,
-        &mut source,
-        &mut sink,
-        &mut wires,
-    );
+    let status = run_still(&rt, rt.alloc(), &words, &mut source, &mut sink, &mut wires);
     ExitCode::from(status)
 }

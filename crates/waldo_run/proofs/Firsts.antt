@@ -14,7 +14,6 @@ rose_twice : (a b : ℕ) → ((Rose a b → ⊥) → ⊥) → Rose a b
 rose_twice a b f = rose_by a b _ refl f
 
 module _ {W : Type 0} (told : W → Option (List Message)) (alterations : W → ℕ) (passes : W → List Message → W → Type 0) where
-
   -- what went over a wire went over the first one
   pub first_went : (wires : List W) (d v w : W) (ms : List Message) → 0 < length wires → v ≡ get_or wires 0 d → Went told alterations passes v ms w
       → FirstWent told alterations passes wires ms (set wires 0 w)

@@ -33,11 +33,9 @@ pub(crate) fn ask_rows<R: Threads + Sync, W: Wire>(
     wire: &mut W,
 ) -> Result<Result<u64, Altered>, Memory>
     requires { IsOver ask.now rows.now widths.now }
-    ensures {
-        (ms : List Message) × Went W.told W.alterations W.passes wire.old ms wire.new
+    ensures { (ms : List Message) × Went W.told W.alterations W.passes wire.old ms wire.new
         × IsPart (setup_of ask.now widths.now rows.now) ms
-        × IfOk result (λ answer. (pair : OpenedPair) × Opens ask.now rows.now ms pair × (answer ≡ checked pair.total pair.weighted (key_for ask.now)))
-    }
+        × IfOk result (λ answer. (pair : OpenedPair) × Opens ask.now rows.now ms pair × (answer ≡ checked pair.total pair.weighted (key_for ask.now))) }
 {
     let seed = derive(&MASTER, 2, 0, 0);
     let keys = make_keys(alloc, &ask.query, widths, &seed)?;

@@ -88,12 +88,10 @@ fn answer_bytes<R: Threads + Sync, W: Wire>(
     wire: &mut W,
 ) -> Result<Reply, Memory>
     requires { Suited (commands.Ask ask.now) }
-    ensures {
-        (ms : List Message) × Went W.told W.alterations W.passes wire.old ms wire.new
+    ensures { (ms : List Message) × Went W.told W.alterations W.passes wire.old ms wire.new
         × OnErr result (BegunOver ask.now ms (rows_in ask.now.schema bytes.now))
         × IfOk result (λ reply. (pair : OpenedPair) × AskedOver ask.now ms pair (rows_in ask.now.schema bytes.now)
-            × (reply ≡ answered (checked_answer pair) ask.now (rows_in ask.now.schema bytes.now)))
-    }
+        × (reply ≡ answered (checked_answer pair) ask.now (rows_in ask.now.schema bytes.now))) }
 {
     let widths = ask.schema.widths();
     let rows = match read_rows(alloc, &ask.schema, widths.largest(), bytes) {

@@ -152,7 +152,10 @@ fn record_wires(alloc: Global) -> Result<Vec<RecordWire>, Memory> {
 }
 
 // Sixteen wires that keep their messages, of which the first adds each amount to the first word of a message.
-fn shift_wires(alloc: Global, amounts: &[(u64, u128)]) -> Result<Vec<ShiftWire<RecordWire>>, Memory> {
+fn shift_wires(
+    alloc: Global,
+    amounts: &[(u64, u128)],
+) -> Result<Vec<ShiftWire<RecordWire>>, Memory> {
     let mut wires = Vec::new(alloc);
     for i in 0..16 {
         let mut shifts = Shifts::new(alloc);
@@ -314,10 +317,7 @@ fn alterations(rt: HostRuntime) -> Result<(), Fail> {
             &[(6, 1 << 64), (12, KEY << 64)],
         ),
         // A second that a count of one predicate doesn't use, made good at the opening.
-        (
-            (COUNT, INPUT, 0, "ask 0 rows 3 count 2\n"),
-            &[(3, 1)],
-        ),
+        ((COUNT, INPUT, 0, "ask 0 rows 3 count 2\n"), &[(3, 1)]),
     ];
     for (case, amounts) in &cases {
         let mut wires = shift_wires(alloc, amounts).ok().ok_or("memory")?;
@@ -361,14 +361,7 @@ fn an_interval_of_a_day(rt: HostRuntime) -> Result<(), Fail> {
     let mut wires = straight_wires(alloc).ok().ok_or("memory")?;
     assert_eq!(&rt; wires.len(), 16);
     assert_eq!(&rt;
-        run_still(
-            &rt,
-            alloc,
-            &words,
-            &mut source,
-            &mut sink,
-            &mut wires
-        ),
+        run_still(&rt, alloc, &words, &mut source, &mut sink, &mut wires),
         0
     );
     assert!(&rt; sink.bytes() == b"ask 0 rows 200 sum 453\n".as_slice());
@@ -386,14 +379,7 @@ fn a_byte_too_many(rt: HostRuntime) -> Result<(), Fail> {
     let mut wires = straight_wires(alloc).ok().ok_or("memory")?;
     assert_eq!(&rt; wires.len(), 16);
     assert_eq!(&rt;
-        run_still(
-            &rt,
-            alloc,
-            &words,
-            &mut source,
-            &mut sink,
-            &mut wires
-        ),
+        run_still(&rt, alloc, &words, &mut source, &mut sink, &mut wires),
         5
     );
     assert!(&rt; sink.bytes() == b"waldo: input too long\n".as_slice());

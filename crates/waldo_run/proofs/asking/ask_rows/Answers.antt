@@ -44,19 +44,18 @@ returns g c =
     let made = c.in_ok-keys.ensures.made ∙ ap (λ (s : Seed). record { query = ask.query; widths = w; seed = s }) c.derive-seed.ensures in
     let many = rows_long w 0 master rows _ has.zero in
     let same = same_pieces w (entries_of master rows) _ _ _ has.zero has.one has.two in
-    let key = c.key.ensures.key ∙ ap (λ (k : Asked). key_from (weights_of k.seed 1) k.query.count) made in
-    (
+    let key = c.key.ensures.key ∙ ap (λ (k : Asked). key_from (weights_of k.seed 1) k.query.count) made in (
       h.0,
       h.1,
       over_rows ask w rows keys _ _ h.0 c.requires made many same h.2,
       (
         pair,
         record {
-        widths = w;
-        over = c.requires;
-        transcript = all_over_rows ask w rows keys _ _ h.0 c.requires made many same h.3.0;
-        total = h.3.1 ∙ same_opened ask w rows keys _ 0 no_pieces h.0 made many;
-        weighted = h.3.2 ∙ same_opened ask w rows keys _ 1 no_pieces h.0 made many;
+          widths = w;
+          over = c.requires;
+          transcript = all_over_rows ask w rows keys _ _ h.0 c.requires made many same h.3.0;
+          total = h.3.1 ∙ same_opened ask w rows keys _ 0 no_pieces h.0 made many;
+          weighted = h.3.2 ∙ same_opened ask w rows keys _ 1 no_pieces h.0 made many;
         },
         c.check.ensures.answer ∙ ap (checked pair.total pair.weighted) key,
       ),
