@@ -38,7 +38,7 @@ fn straight_wires(alloc: Global) -> Result<Vec<StraightWire>, Memory>
     ensures { IfOk result (λ wires. length wires.items ≡ 16) }
 {
     let mut wires = Vec::with_capacity(alloc, 16)?;
-    for _ in 0..16 {
+    for _i in 0..16u8 {
         wires.push(StraightWire::new())?;
     }
     Ok(wires)
