@@ -22,8 +22,8 @@
 mod fault;
 mod key_level;
 mod key_words;
-mod leaf;
 pub mod laws;
+mod leaf;
 mod level;
 mod node;
 mod side;
