@@ -1,8 +1,6 @@
 -- Comparison keys are read back from their words.
-use Rattle.std.proofs.Common.{◌≡◌, ℕ, zero, suc, ◌+◌, ◌*◌, All, length, refl, ap, subst, ◌∙◌}
+use Rattle.std.proofs.Common.{◌≡◌, ℕ, zero, suc, ◌+◌, ◌*◌, All, refl, ap, subst, ◌∙◌}
 use Rattle.std.proofs.lemmas.List.Elements.{All-cons, All-nil}
-use Rattle.prg_chacha.specs.declared.seed.Seed.{Seed}
-use Rattle.ring128.specs.declared.party.Party.{Party}
 use Rattle.ring128.specs.declared.party.Party.TheVariants.{Zero, One}
 use Rattle.key_tree.specs.KeyWords.{key_words, key_read}
 use Rattle.key_tree.specs.Seeds.{IsSeed}

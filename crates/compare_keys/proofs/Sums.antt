@@ -4,7 +4,6 @@ use Rattle.std.proofs.lemmas.Bool.{eqb-true, le-leb, lt-leb, cases_Bool, cases_l
 use Rattle.std.proofs.lemmas.Nat.{mod_below, mod-pow-add, pow_pos}
 use Rattle.std.proofs.Math.Nat.{mod-eq_of_lt}
 use Rattle.prg_chacha.specs.declared.seed.Seed.{Seed}
-use Rattle.prg_chacha.specs.declared.side.Side.{Side}
 use Rattle.prg_chacha.specs.Prg.{strand_of}
 use Rattle.ring128.specs.Ring.{plus, minus, negative}
 use Rattle.ring128.specs.declared.party.Party.TheVariants.{Zero, One}

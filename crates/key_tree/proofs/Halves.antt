@@ -1,5 +1,5 @@
 -- Seeds and levels are read back from their words.
-use Rattle.std.proofs.Common.{◌≡◌, ℕ, zero, suc, ◌+◌, ◌*◌, ◌-◌, ◌/◌, ◌%◌, ◌^◌, ◌<◌, Bool, true, false, List, [], ◌∷◌, length, get_or, refl, ap, arith}
+use Rattle.std.proofs.Common.{◌≡◌, ℕ, zero, suc, ◌+◌, ◌-◌, ◌/◌, ◌%◌, ◌^◌, ◌<◌, Bool, true, false, [], ◌∷◌, get_or, refl, ap, arith}
 use Rattle.std.proofs.lemmas.Nat.{mod_below, xor_lt}
 use Rattle.rand_chacha.specs.Block.{block_word}
 use Rattle.prg_chacha.specs.declared.seed.Seed.{Seed}

@@ -1,11 +1,8 @@
 -- Point keys are read back from their words.
-use Rattle.std.proofs.Common.{◌≡◌, ℕ, zero, suc, ◌+◌, ◌*◌, All, length, refl, ap, subst, ◌∙◌}
+use Rattle.std.proofs.Common.{◌≡◌, ℕ, zero, suc, ◌+◌, ◌*◌, All, refl, ap, subst, ◌∙◌}
 use Rattle.std.proofs.lemmas.List.Elements.{All-cons, All-nil}
-use Rattle.prg_chacha.specs.declared.seed.Seed.{Seed}
-use Rattle.ring128.specs.declared.party.Party.{Party}
 use Rattle.ring128.specs.declared.party.Party.TheVariants.{Zero, One}
 use Rattle.key_tree.specs.KeyWords.{key_words, key_read, level_words, level_read}
-use Rattle.key_tree.specs.Seeds.{IsSeed}
 use Rattle.key_tree.specs.Tree.{root_for, side_at, level_between, start}
 use Rattle.key_tree.specs.declared.level.Level.{Level}
 use Rattle.key_tree.specs.declared.node.Node.{Node}
