@@ -28,7 +28,9 @@ fn words_of(rt: &HostRuntime) -> io::Result<Vec<String>> {
 
 fn read_words(rt: &HostRuntime) -> io::Result<Vec<String>> {
     match words_of(rt) {
-        Err(error) if error.kind() == io::ErrorKind::InvalidData => unknown::command(rt.alloc()),
+        Err(error) if error.kind() == io::ErrorKind::InvalidData => {
+            Ok(unknown::command(rt.alloc())?)
+        }
         words => words,
     }
 }
