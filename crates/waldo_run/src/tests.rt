@@ -248,7 +248,7 @@ fn lengths<R: Abort + Threads + Sync>(
         assert_eq!(rt; message.sent.len(), *length);
         assert_eq!(rt; message.received.len(), *length);
     }
-    for wire in &wires[1..] {
+    for wire in wires.iter().skip(1) {
         assert!(rt; wire.messages().is_empty());
     }
     Ok(())
