@@ -242,6 +242,7 @@ fn lengths<R: Abort + Threads + Sync>(
 ) -> Result<(), Memory> {
     let mut wires = record_wires(alloc)?;
     runs(rt, alloc, case, &mut wires, &[], &[])?;
+    assert_eq!(rt; wires.len(), 16);
     let messages = wires[0].messages();
     assert_eq!(rt; messages.len(), lengths.len());
     for (message, length) in messages.iter().zip(lengths) {
