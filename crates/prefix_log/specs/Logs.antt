@@ -20,8 +20,8 @@ abbrev pub piece_at : List (Option Piece) → ℕ → Option Piece
 piece_at slots place = slice_index_or slots place None
 
 -- a piece of this server and of these widths
-pub record IsOwn (server : ℕ) (w : Widths) (piece : Piece) : Type 0 where
-  pub server : piece.server ≡ server
+pub record IsOwn (k : ℕ) (w : Widths) (piece : Piece) : Type 0 where
+  pub server : piece.server ≡ k
   pub widths : HasWidths w piece
 
 -- each place of the journal is there once and has a piece, other places have none, and each piece is the server's own
@@ -44,9 +44,9 @@ abbrev pub placed : Log → ℕ → Piece → Log
 placed log place piece = if is_some (piece_at log.slots place) then log
     else record log { journal = log.journal ++ place ∷ []; slots = slice_set log.slots place (Some piece) }
 
--- a log, with room for its journal, and a number that is its prefix
-pub record IsKept (room prefix : ℕ) (log : Log) : Type 0 where
+-- a log, with space for its journal, and a number that is its prefix
+pub record IsKept (space prefix : ℕ) (log : Log) : Type 0 where
   pub legal : IsLog log
-  pub room : log.capacity ≤ room
+  pub room : log.capacity ≤ space
   pub below : (place : ℕ) → place < prefix → is_some (piece_at log.slots place) ≡ true
   pub gap : is_some (piece_at log.slots prefix) ≡ false

@@ -29,7 +29,7 @@ pub record IsCut (n : ℕ) (old new : Held) : Type 0 where
 
 -- how many rows the first chunks have, of so many rows
 abbrev pub rows_before : ℕ → ℕ → ℕ
-rows_before rows chunk = min (64 * chunk) rows
+rows_before rows chunk = min rows (64 * chunk)
 
 -- the cells of the rows from one to below another
 abbrev pub cells_between : ℕ → ℕ → ℕ → List ℕ → List ℕ

@@ -1,6 +1,7 @@
 -- What a snapshot holds: the pieces of the first places.
-use Rattle.std.specs.Prelude.{◌≡◌, ℕ, ◌≤◌, Option, List, take, length, option_to_list}
+use Rattle.std.specs.Prelude.{◌≡◌, ℕ, ◌≤◌, Option, List, take, length}
 use Rattle.std.specs.List.{flat_map}
+use Rattle.std.specs.Option.{option_to_list}
 use Rattle.table_schema.specs.declared.widths.Widths.{Widths}
 use Rattle.onehot_column.specs.Code.{width_of, cells_at}
 use Rattle.onehot_column.specs.declared.piece.Piece.{Piece}
