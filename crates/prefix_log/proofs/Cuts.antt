@@ -1,5 +1,5 @@
 -- The first rows of columns, and parts of them.
-use Rattle.std.proofs.Common.{◌≡◌, ◌∙◌, refl, sym, ap, ℕ, ◌+◌, ◌-◌, ◌*◌, ◌<◌, ◌≤◌, min, List, length, map, take, drop, arith}
+use Rattle.std.proofs.Common.{◌≡◌, ◌∙◌, refl, sym, ap, subst, ℕ, ◌+◌, ◌-◌, ◌*◌, ◌<◌, ◌≤◌, min, List, length, map, take, drop, arith}
 use Rattle.std.proofs.lemmas.List.{drop-take, take-take, length-take, length-drop, length-map, get_or-map, take_all}
 use Rattle.std.proofs.lemmas.Nat.{mul-le}
 use Rattle.scan_chunks.specs.Columns.{column_at}
@@ -102,3 +102,38 @@ module _ (low high rows start : ℕ) (columns : List Column) (some : 0 < length 
         value = ap (first_rows (min rows (64 * high) - min rows (64 * low)) (start + low) (map (rows_between (min rows (64 * low)) (min rows (64 * high))) columns)).width p.columns
             ∙ p.width (length columns - 1) (omega arith) ∙ shelf.value;
       }
+
+module _ (low high rows start : ℕ) (columns : List Column) (some : 0 < length columns) (shelf : IsShelf (first_rows rows start columns)) (order : low ≤ high) (there : high ≤ chunks_of rows) (a b : ℕ) (new : List Column)
+    (first : a ≡ min rows (64 * low)) (end : b ≡ min rows (64 * high)) (copied : new ≡ map (rows_between a b) columns) where
+  pub part_shelf_at : IsShelf (first_rows (b - a) (start + low) new)
+  part_shelf_at = rw (copied, first, end) (part_shelf low high rows start columns some shelf order there)
+
+  pub part_is_at : (h : Held) → h ≡ first_rows (b - a) (start + low) new → IsPart low high (first_rows rows start columns) h
+  part_is_at h is = rw (is, copied, first, end) (part_is low high rows start columns some shelf order there)
+
+-- ---- one of the columns
+
+pub rows_there_first : (high rows start i : ℕ) (columns : List Column) (c : Column) → IsShelf (first_rows rows start columns) → high ≤ rows → i < length columns → column_at columns i ≡ c → high * c.width ≤ length c.first
+rows_there_first high rows start i columns c shelf le lt e =
+    let d = column_at columns i in
+    let all = long_enough (rows * d.width) d.first (shelf.first i (omega arith)) in
+    let less : high * d.width ≤ rows * d.width = mul-le high d.width rows d.width le (omega arith) in
+    subst (λ (x : Column). high * x.width ≤ length x.first) e (omega (arith, all, less))
+
+pub rows_there_second : (high rows start i : ℕ) (columns : List Column) (c : Column) → IsShelf (first_rows rows start columns) → high ≤ rows → i < length columns → column_at columns i ≡ c → high * c.width ≤ length c.second
+rows_there_second high rows start i columns c shelf le lt e =
+    let d = column_at columns i in
+    let all = long_enough (rows * d.width) d.second (shelf.second i (omega arith)) in
+    let less : high * d.width ≤ rows * d.width = mul-le high d.width rows d.width le (omega arith) in
+    subst (λ (x : Column). high * x.width ≤ length x.second) e (omega (arith, all, less))
+
+-- a copied part of a column, by its first and its last cell
+pub cells_are : (w low high : ℕ) (cells source copied : List ℕ) → low ≤ high → source ≡ cells → copied ≡ take (high * w - low * w) (drop (low * w) source) → copied ≡ cells_between w low high cells
+cells_are w low high cells source copied le same e =
+    let s : high ≡ low + (high - low) = omega arith in
+    let m : high * w ≡ low * w + (high - low) * w = ap (λ (k : ℕ). k * w) s ∙ omega arith in
+    let n : high * w - low * w ≡ (high - low) * w = omega arith in
+    e ∙ ap (λ (k : ℕ). take k (drop (low * w) source)) n ∙ ap (cells_between w low high) same
+
+pub column_same : (w : ℕ) {a b x y : List ℕ} → a ≡ x → b ≡ y → ◌≡◌ {A = Column} (record { width = w; first = a; second = b }) (record { width = w; first = x; second = y })
+column_same w {a} {b} {x} {y} e f = ap (λ (l : List ℕ). record { width = w; first = l; second = b }) e ∙ ap (λ (l : List ℕ). record { width = w; first = x; second = l }) f

@@ -3,7 +3,7 @@ use Rattle.std.proofs.Common.{◌≡◌, ◌≢◌, ◌∙◌, refl, sym, ap, su
 use Rattle.std.specs.Prelude.{Option, Some, None, is_some}
 use Rattle.std.proofs.lemmas.Bool.{cases_order}
 use Rattle.std.proofs.lemmas.Bool.Decides.{nat_tests}
-use Rattle.std.proofs.lemmas.List.{get_or-set_same, get_or-set_other, get_or-take, get_or_past, length-take, length-set}
+use Rattle.std.proofs.lemmas.List.{get_or-set_same, get_or-set_other, get_or-take, get_or_past, length-append, length-take, length-set}
 use Rattle.list_facts.specs.Count.{has, times, once_below}
 use Rattle.list_facts.specs.Listed.{listed}
 use Rattle.list_facts.proofs.Count.{has_from, has_from_none, length_once, times-append}
@@ -15,11 +15,16 @@ use Rattle.onehot_column.specs.declared.piece.Piece.{Piece}
 use Rattle.prefix_log.specs.Journal.{IsPrefixOf}
 use Rattle.prefix_log.specs.Logs.{Log, IsKept, IsLog, IsOwn, AreFilled, empty_log, piece_at}
 
+pub any_default : {A : Type 0} (xs : List A) (i : ℕ) (d e : A) → i < length xs → get_or xs i d ≡ get_or xs i e
+any_default [] i d e h = absurd (omega arith)
+any_default (x ∷ xs) zero d e h = refl
+any_default (x ∷ xs) (suc i) d e h = any_default xs i d e (omega arith)
+
 pub some_of : {A : Type 0} (o : Option A) → is_some o ≡ true → (x : A) × (o ≡ Some x)
 some_of None e = absurd cc
 some_of (Some x) e = (x, refl)
 
-same_some : {A : Type 0} (x y : A) → Some x ≡ Some y → x ≡ y
+pub same_some : {A : Type 0} (x y : A) → Some x ≡ Some y → x ≡ y
 same_some x y e = cc
 
 -- past the last slot there is no piece
@@ -70,6 +75,10 @@ empty_kept space k capacity w fits room = record {
   below = λ place lt. absurd (omega arith);
   gap = free_at capacity 0;
 }
+
+pub new_kept : (space k capacity : ℕ) (w : Widths) (journal : List ℕ) (slots : List (Option Piece)) → Fits (column_bits w) capacity → capacity ≤ space → journal ≡ [] → slots ≡ listed capacity (λ (p : ℕ). None)
+    → IsKept space 0 (record { server = k; widths = w; capacity = capacity; journal = journal; slots = slots })
+new_kept space k capacity w journal slots fits room none free = rw (none, free) (empty_kept space k capacity w fits room)
 
 -- ---- a placing
 
@@ -154,7 +163,7 @@ pub first_filled : (space prefix : ℕ) (log : Log) → IsKept space prefix log 
 first_filled space prefix log k place lt =
     let below : place < prefix = omega (arith, length-take prefix log.slots) in
     let p = some_of (piece_at log.slots place) (k.below place below) in
-    (p.0, (get_or-take prefix log.slots place None below ∙ p.1, (k.legal.own place p.0 p.1).widths))
+    (p.0, get_or-take prefix log.slots place None below ∙ p.1, (k.legal.own place p.0 p.1).widths)
 
 pub few_slots : (space prefix : ℕ) (log : Log) → IsKept space prefix log → length (take prefix log.slots) ≤ 65536
 few_slots space prefix log k = omega (arith, length-take prefix log.slots, k.legal.places, k.legal.fits.1)

@@ -1,4 +1,5 @@
 pub mod Cuts
+pub mod Fixed
 pub mod Journals
 pub mod Kept
 pub mod Parts

@@ -1,8 +1,9 @@
 -- Parts of a shelf, one after another.
-use Rattle.std.proofs.Common.{◌≡◌, ◌∙◌, refl, sym, ap, ℕ, zero, suc, ◌+◌, ◌-◌, ◌*◌, ◌/◌, ◌<◌, ◌≤◌, List, [], ◌∷◌, ◌++◌, All, length, map, get_or, take, drop, cond, ltb, Bool, true, false, arith}
+use Rattle.std.proofs.Common.{◌≡◌, ◌∙◌, refl, sym, ap, subst, ℕ, zero, suc, ◌+◌, ◌-◌, ◌*◌, ◌/◌, ◌<◌, ◌≤◌, List, [], ◌∷◌, ◌++◌, All, length, map, get_or, take, drop, cond, ltb, Bool, true, false, arith}
 use Rattle.std.specs.List.{flat_map}
 use Rattle.std.proofs.lemmas.Bool.{ltb-true, ltb-false}
-use Rattle.std.proofs.lemmas.List.{All-append, flat_map_more, length-take, length-drop, take_all}
+use Rattle.std.proofs.lemmas.List.Elements.{All-append}
+use Rattle.std.proofs.lemmas.List.{flat_map_more, length-take, length-drop, take_all}
 use Rattle.std.proofs.lemmas.Nat.{mul-le}
 use Rattle.std.proofs.Math.Seq.{take-add}
 use Rattle.list_facts.specs.Count.{total}
@@ -139,3 +140,21 @@ shared_more count least longer worker low extra chunks lt so_far is = by (ltb wo
     by : (b : Bool) → ltb worker longer ≡ b → low + least + extra + left_after count least longer (worker + 1) ≡ chunks
     by true e = let x : extra ≡ 1 = is ∙ ap (λ (b : Bool). cond b 1 0) e in let l : worker < longer = ltb-true worker longer e in omega (arith, next)
     by false e = let x : extra ≡ 0 = is ∙ ap (λ (b : Bool). cond b 1 0) e in let l : longer ≤ worker = ltb-false worker longer e in omega (arith, next)
+
+-- the last worker has its share, and nothing is left
+pub shared_all : (count least longer worker low chunks : ℕ) → count ≤ worker → longer ≤ count → low + left_after count least longer worker ≡ chunks → low ≡ chunks
+shared_all count least longer worker low chunks le few is =
+    let none : (count - worker) * least ≡ 0 = (let z : count - worker ≡ 0 = omega arith in ap (λ (m : ℕ). m * least) z ∙ omega arith) in
+    omega (arith, none)
+
+-- a part that was pushed
+pub part_pushed : {S : Type 0} (held : S → Held) (chunks workers low high : ℕ) (whole : Held) (old new : List S) (part : S) → new ≡ old ++ part ∷ [] → IsShelf whole → low ≤ high → high ≤ chunks_of whole.rows
+    → chunks / workers ≤ high - low → high - low ≤ chunks / workers + 1
+    → PartsBelow chunks workers low whole (map held old) → IsPart low high whole (held part) → PartsBelow chunks workers high whole (map held new)
+part_pushed held chunks workers low high whole old new part pushed shelf order there least most so_far is =
+    subst (PartsBelow chunks workers high whole) (sym (ap (map held) pushed ∙ map_last old))
+    (part_more chunks workers low high whole (held part) (map held old) shelf order there least most so_far is)
+  where
+    map_last : (xs : List S) → map held (xs ++ part ∷ []) ≡ map held xs ++ held part ∷ []
+    map_last [] = refl
+    map_last (x ∷ xs) = ap (λ (l : List Held). held x ∷ l) (map_last xs)

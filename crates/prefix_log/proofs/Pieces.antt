@@ -66,6 +66,11 @@ pieces_more f slots i p h is =
     let listed_so : pieces_in (take i slots ++ Some p ∷ []) ≡ pieces_in (take i slots) ++ p ∷ [] = sym (flat_map_more option_to_list [] (take i slots) (Some p)) in
     ap (λ (l : List (Option Piece)). flat_map f (pieces_in l)) taken ∙ ap (flat_map f) listed_so ∙ sym (flat_map_more f [] (pieces_in (take i slots)) p)
 
+pub cells_pushed : (f : Piece → List ℕ) (slots : List (Option Piece)) (i : ℕ) (p : Piece) (old new cells : List ℕ) → i < length slots → piece_at slots i ≡ Some p
+    → old ≡ flat_map f (pieces_in (take i slots)) → cells ≡ f p → new ≡ old ++ cells → new ≡ flat_map f (pieces_in (take (i + 1) slots))
+cells_pushed f slots i p old new cells h is was now pushed =
+    pushed ∙ ap (λ (l : List ℕ). l ++ cells) was ∙ ap (λ (l : List ℕ). flat_map f (pieces_in (take i slots)) ++ l) now ∙ sym (pieces_more f slots i p h is)
+
 -- ---- a snapshot's columns
 
 module _ (w : Widths) (slots : List (Option Piece)) (filled : AreFilled w slots) where

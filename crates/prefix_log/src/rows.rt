@@ -96,12 +96,14 @@ fn copy(alloc: Global, column: &Column, low: u64, high: u64) -> Result<Column, M
     requires second { high * column.now.width ≤ length column.now.second }
     ensures { IfOk result (λ c. c ≡ rows_between low high column.now) }
 {
-    let start = (low * column.width) as usize;
+    let first = column.first.as_slice();
+    let second = column.second.as_slice();
     let end = (high * column.width) as usize;
+    let start = (low * column.width) as usize;
     Ok(Column {
         width: column.width,
-        first: words(alloc, &column.first.as_slice()[start..end])?,
-        second: words(alloc, &column.second.as_slice()[start..end])?,
+        first: words(alloc, &first[start..end])?,
+        second: words(alloc, &second[start..end])?,
     })
 }
 
