@@ -104,10 +104,10 @@ module _ (slots : List (Option Piece)) (place : ℕ) (piece : Piece) (there : pl
       → (x : ℕ) → times x (journal ++ place ∷ []) ≡ cond (is_some (piece_at (set slots place (Some piece)) x)) 1 0
   once_more journal once free = by_place place (λ (x : ℕ). times x (journal ++ place ∷ []) ≡ cond (is_some (piece_at (set slots place (Some piece)) x)) 1 0)
       (λ x e. let none : times x journal ≡ 0 = once x ∙ ap (λ (b : Bool). cond b 1 0) (ap (λ (y : ℕ). is_some (piece_at slots y)) e ∙ free) in
-          let sum : times x (journal ++ place ∷ []) ≡ 1 = omega (arith, none, times-append x journal (place ∷ []), one_there x place e) in
-          sum ∙ sym (ap (λ (o : Option Piece). cond (is_some o) 1 0) (at_place x e)))
+      let sum : times x (journal ++ place ∷ []) ≡ 1 = omega (arith, none, times-append x journal (place ∷ []), one_there x place e) in
+      sum ∙ sym (ap (λ (o : Option Piece). cond (is_some o) 1 0) (at_place x e)))
       (λ x ne. let sum : times x (journal ++ place ∷ []) ≡ times x journal = omega (arith, times-append x journal (place ∷ []), one_elsewhere x place ne) in
-          sum ∙ once x ∙ sym (ap (λ (o : Option Piece). cond (is_some o) 1 0) (elsewhere x ne)))
+      sum ∙ once x ∙ sym (ap (λ (o : Option Piece). cond (is_some o) 1 0) (elsewhere x ne)))
 
   pub own_more : (P : Piece → Type 0) → ((x : ℕ) (p : Piece) → piece_at slots x ≡ Some p → P p) → P piece
       → (x : ℕ) (p : Piece) → piece_at (set slots place (Some piece)) x ≡ Some p → P p

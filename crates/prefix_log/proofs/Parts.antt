@@ -147,14 +147,17 @@ shared_all count least longer worker low chunks le few is =
     let none : (count - worker) * least ≡ 0 = (let z : count - worker ≡ 0 = omega arith in ap (λ (m : ℕ). m * least) z ∙ omega arith) in
     omega (arith, none)
 
+map_last : {S : Type 0} (held : S → Held) (part : S) (xs : List S) → map held (xs ++ part ∷ []) ≡ map held xs ++ held part ∷ []
+map_last held part [] = refl
+map_last held part (x ∷ xs) = ap (λ (l : List Held). held x ∷ l) (map_last held part xs)
+
 -- a part that was pushed
 pub part_pushed : {S : Type 0} (held : S → Held) (chunks workers low high : ℕ) (whole : Held) (old new : List S) (part : S) → new ≡ old ++ part ∷ [] → IsShelf whole → low ≤ high → high ≤ chunks_of whole.rows
     → chunks / workers ≤ high - low → high - low ≤ chunks / workers + 1
     → PartsBelow chunks workers low whole (map held old) → IsPart low high whole (held part) → PartsBelow chunks workers high whole (map held new)
 part_pushed held chunks workers low high whole old new part pushed shelf order there least most so_far is =
-    subst (PartsBelow chunks workers high whole) (sym (ap (map held) pushed ∙ map_last old))
+    subst (PartsBelow chunks workers high whole) (sym (ap (map held) pushed ∙ map_last held part old))
     (part_more chunks workers low high whole (held part) (map held old) shelf order there least most so_far is)
-  where
-    map_last : (xs : List S) → map held (xs ++ part ∷ []) ≡ map held xs ++ held part ∷ []
-    map_last [] = refl
-    map_last (x ∷ xs) = ap (λ (l : List Held). held x ∷ l) (map_last xs)
+
+pub all_pushed : {S : Type 0} (P : S → Type 0) (old new : List S) (x : S) → new ≡ old ++ x ∷ [] → All P old → P x → All P new
+all_pushed P old new x pushed all here = subst (All P) (sym pushed) (more P old x all here)

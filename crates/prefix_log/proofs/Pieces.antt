@@ -4,7 +4,6 @@ use Rattle.std.specs.Prelude.{Option, Some, None, slice_get}
 use Rattle.std.specs.List.{flat_map}
 use Rattle.std.specs.Option.{option_to_list}
 use Rattle.std.proofs.lemmas.List.{length-append, length-take, length-drop, flat_map_more, take_all, take_more, drop_all}
-
 use Rattle.std.proofs.Math.Pow.{pow_mono}
 use Rattle.list_facts.specs.Listed.{listed}
 use Rattle.list_facts.proofs.Listed.{get_or-listed, length-listed}

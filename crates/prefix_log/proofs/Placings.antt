@@ -69,13 +69,13 @@ after_free log x xs once there e rest =
     first : (place : ℕ) → cond (is_some (piece_at (set log.slots x.0 (Some x.1)) place)) (piece_at (set log.slots x.0 (Some x.1)) place) (first_at place xs)
         ≡ cond (is_some (piece_at log.slots place)) (piece_at log.slots place) (first_at place (x ∷ xs))
     first = by_place x.0 (λ (place : ℕ). cond (is_some (piece_at (set log.slots x.0 (Some x.1)) place)) (piece_at (set log.slots x.0 (Some x.1)) place) (first_at place xs)
-            ≡ cond (is_some (piece_at log.slots place)) (piece_at log.slots place) (first_at place (x ∷ xs)))
+        ≡ cond (is_some (piece_at log.slots place)) (piece_at log.slots place) (first_at place (x ∷ xs)))
         (λ place is. let free : is_some (piece_at log.slots place) ≡ false = ap (λ (y : ℕ). is_some (piece_at log.slots y)) is ∙ e in
-            ap (λ (o : Option Piece). cond (is_some o) o (first_at place xs)) (at_place log.slots x.0 x.1 there place is)
-            ∙ sym (ap (λ (b : Bool). cond b (Some x.1) (first_at place xs)) (eqb_same place x.0 is))
-            ∙ sym (ap (λ (b : Bool). cond b (piece_at log.slots place) (first_at place (x ∷ xs))) free))
+        ap (λ (o : Option Piece). cond (is_some o) o (first_at place xs)) (at_place log.slots x.0 x.1 there place is)
+        ∙ sym (ap (λ (b : Bool). cond b (Some x.1) (first_at place xs)) (eqb_same place x.0 is))
+        ∙ sym (ap (λ (b : Bool). cond b (piece_at log.slots place) (first_at place (x ∷ xs))) free))
         (λ place ne. ap (λ (o : Option Piece). cond (is_some o) o (first_at place xs)) (elsewhere log.slots x.0 x.1 there place ne)
-            ∙ ap (λ (b : Bool). cond (is_some (piece_at log.slots place)) (piece_at log.slots place) (cond b (Some x.1) (first_at place xs))) (sym (eqb_other place x.0 ne)))
+        ∙ ap (λ (b : Bool). cond (is_some (piece_at log.slots place)) (piece_at log.slots place) (cond b (Some x.1) (first_at place xs))) (sym (eqb_other place x.0 ne)))
 
 after : (log : Log) (xs : List (ℕ × Piece)) → Once log → All (λ (x : ℕ × Piece). x.0 < length log.slots) xs → After log xs
 after log [] once all = record { journal = sym (append-nil log.journal); pieces = λ place lt. or_none (piece_at log.slots place) }

@@ -68,7 +68,10 @@ impl ServerLog {
     pub fn place(&mut self, place: u64, piece: Piece)
         requires below { place < self.old.capacity }
         requires own { IsOwn self.old.server self.old.widths piece }
-        ensures { self.new ≡ placed self.old place piece }
+        ensures placed { self.new ≡ placed self.old place piece }
+        ensures server { self.new.server ≡ self.old.server }
+        ensures widths { self.new.widths ≡ self.old.widths }
+        ensures capacity { self.new.capacity ≡ self.old.capacity }
     {
         if self.slots[place as usize].is_some() {
             return;

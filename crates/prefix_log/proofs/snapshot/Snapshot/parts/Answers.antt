@@ -1,8 +1,8 @@
-use Rattle.std.proofs.Common.{◌≡◌, ◌∙◌, ◌+◌, ◌-◌, ◌/◌, ◌%◌, ◌<◌, ◌≤◌, cond, ltb, rules, arith}
+use Rattle.std.proofs.Common.{◌≡◌, ◌∙◌, ◌+◌, ◌-◌, ◌/◌, ◌%◌, ◌<◌, ◌≤◌, [], cond, ltb, rules, arith}
 use Rattle.scan_chunks.specs.Pieces.{chunks_of}
 use Rattle.prefix_log.specs.Rows.{first_rows}
 use Rattle.prefix_log.specs.declared.snapshot.Snapshot.{Snapshot}
-use Rattle.prefix_log.proofs.Parts.{all_parts, left_after, part_pushed, shared_all, shared_more}
+use Rattle.prefix_log.proofs.Parts.{all_parts, all_pushed, part_pushed, shared_all, shared_more}
 use Rattle.prefix_log.proofs.snapshot.Snapshot.parts.Goals as goal
 
 pub loop-worker-preserved : goal.loop-worker-preserved
@@ -20,7 +20,7 @@ loop-worker-preserved c =
     record {
       so_far = part_pushed (λ (s : Snapshot). first_rows s.rows.count s.rows.start s.rows.columns.items) chunks count low (low + chunks / count + c.from.result) (first_rows r.count r.start r.columns.items)
           c.loop-worker.parts.items c.push.new.self.items c.in_ok-part.field-0 c.in_ok-push.ensures.items r.shelf (omega arith) (omega (arith, left, size)) (omega arith) (omega (arith, few)) i.so_far c.in_ok-part.ensures.held;
-      visits = search rules;
+      visits = all_pushed (λ (s : Snapshot). s.visits.items ≡ []) c.loop-worker.parts.items c.push.new.self.items c.in_ok-part.field-0 c.in_ok-push.ensures.items i.visits c.in_ok-part.ensures.visits;
       made = search rules;
       left = left;
     }
