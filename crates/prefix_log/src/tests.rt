@@ -16,25 +16,25 @@ const WIDTHS: Widths = Widths {
 };
 
 // Server 0's piece of a row with bucket 1.
-fn piece<R: Abort>(rt: &R, alloc: Global, n: u32) -> Result<Piece, Memory>
-    ensures { IfOk result (λ p. IsOwn 0 WIDTHS p) }
+fn piece<R: Abort>(rt: &R, alloc: Global, widths: &Widths, n: u32) -> Result<Piece, Memory>
+    ensures { IfOk result (λ p. IsOwn 0 widths.now p) }
 {
     let row = Row {
         columns: 1,
         buckets: [1, 0, 0, 0, 0, 0],
         value: i64::from(n),
     };
-    assert!(rt; WIDTHS.holds(&row));
+    assert!(rt; widths.holds(&row));
     let seed = Seed { words: [n; 8] };
-    Ok(pieces(alloc, &WIDTHS, &row, &seed)?.zero)
+    Ok(pieces(alloc, widths, &row, &seed)?.zero)
 }
 
 // Server 0's log.
-fn log<R: Abort>(rt: &R, alloc: Global, capacity: u32) -> Result<ServerLog, Memory>
-    ensures { IfOk result (λ l. l ≡ empty_log 0 WIDTHS capacity) }
+fn log<R: Abort>(rt: &R, alloc: Global, widths: &Widths, capacity: u32) -> Result<ServerLog, Memory>
+    ensures { IfOk result (λ l. l ≡ empty_log 0 widths.now capacity) }
 {
-    assert!(rt; WIDTHS.fits(capacity));
-    ServerLog::new(alloc, 0, &WIDTHS, capacity)
+    assert!(rt; widths.fits(capacity));
+    ServerLog::new(alloc, 0, widths, capacity)
 }
 
 // The numbers of a scan of the first column.
@@ -50,13 +50,13 @@ fn scan<R: Abort>(rt: &R, alloc: Global, snapshot: &mut Snapshot) -> Result<Word
 #[test]
 fn a_place_keeps_its_first_piece(rt: HostRuntime) -> Result<(), Memory> {
     let alloc = rt.alloc();
-    let mut log = log(&rt, alloc, 4)?;
-    log.place(1, piece(&rt, alloc, 1)?);
+    let mut log = log(&rt, alloc, &WIDTHS, 4)?;
+    log.place(1, piece(&rt, alloc, &WIDTHS, 1)?);
     assert_eq!(rt; log.prefix(), 0);
-    log.place(0, piece(&rt, alloc, 2)?);
+    log.place(0, piece(&rt, alloc, &WIDTHS, 2)?);
     assert_eq!(rt; log.prefix(), 2);
     let before = scan(&rt, alloc, &mut log.fix(alloc)?)?;
-    log.place(0, piece(&rt, alloc, 3)?);
+    log.place(0, piece(&rt, alloc, &WIDTHS, 3)?);
     assert_eq!(rt; log.prefix(), 2);
     let mut snapshot = log.fix(alloc)?;
     assert_eq!(rt; (snapshot.rows(), snapshot.first()), (2, 0));
@@ -72,9 +72,9 @@ fn a_place_keeps_its_first_piece(rt: HostRuntime) -> Result<(), Memory> {
 #[test]
 fn the_parts_of_65_rows_have_64_and_1(rt: HostRuntime) -> Result<(), Memory> {
     let alloc = rt.alloc();
-    let mut log = log(&rt, alloc, 65)?;
+    let mut log = log(&rt, alloc, &WIDTHS, 65)?;
     for n in 0..65 {
-        log.place(n, piece(&rt, alloc, n as u32)?);
+        log.place(n, piece(&rt, alloc, &WIDTHS, n as u32)?);
     }
     let mut snapshot = log.fix(alloc)?;
     let mut parts = snapshot.parts(alloc, 2)?;
