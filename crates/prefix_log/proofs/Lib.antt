@@ -1,0 +1,7 @@
+pub mod Cuts
+pub mod Fixed
+pub mod Journals
+pub mod Kept
+pub mod Parts
+pub mod Pieces
+pub mod Placings

@@ -1,0 +1,6 @@
+pub mod Journal
+pub mod Laws
+pub mod Logs
+pub mod Placings
+pub mod Rows
+pub mod Snapshots

@@ -1,0 +1,33 @@
+//! A server's log of pieces: which places have one, how many of the first places have one without a gap, and snapshots
+//! of the pieces there.
+//!
+//! A place takes the first piece that comes to it and keeps it. The journal is the list of these places in the order in
+//! which they were filled, and its prefix is the largest number such that each place below it is filled. A snapshot
+//! copies the pieces of the places below the prefix, so what is placed later changes no snapshot.
+//!
+//! ```text
+//! let mut log = ServerLog::new(alloc, 0, &widths, 4)?;
+//! log.place(1, second);
+//! log.prefix(); // 0, since place 0 is free
+//! log.place(0, first);
+//! log.prefix(); // 2
+//! let mut snapshot = log.fix(alloc)?; // two rows, `first` and `second`
+//! snapshot.cut(1); // and now the row of `first`
+//! ```
+#![tactic(auto)]
+
+mod cells;
+mod fault;
+mod journal;
+pub mod laws;
+mod log;
+mod rows;
+mod snapshot;
+
+pub use fault::OpenFault;
+pub use journal::prefix_of;
+pub use log::ServerLog;
+pub use snapshot::Snapshot;
+
+#[cfg(test)]
+mod tests;

@@ -1,0 +1,112 @@
+ghost use Rattle.std.specs.Prelude.{◌≡◌, ℕ, ◌<◌, ◌≤◌, [], IfOk, All, length, map};
+ghost use Rattle.scan_chunks.specs.Shelf.{Held, IsShelf};
+ghost use Rattle.scan_chunks.specs.Laws.{AreParts, GoOn};
+ghost use Rattle.scan_chunks.specs.Pieces.{chunks_of};
+ghost use Rattle.prefix_log.specs.Rows.{first_rows, IsCut, IsPart, IsEven};
+
+use crate::rows::Rows;
+use ring128::Memory;
+use scan_chunks::{Column, Lent, Shelf, Visit};
+use std::alloc::Global;
+
+/// The pieces of the first places of a server's log, a row each. It owns its cells, so nothing that is placed later
+/// changes it.
+#[derive(Drop)]
+pub struct Snapshot {
+    rows: Rows,
+    visits: Vec<Visit>,
+}
+
+impl Snapshot {
+    // The first rows of some columns, the last of which is the value's. It takes no memory.
+    pub(crate) fn new(alloc: Global, count: u64, start: u32, columns: Vec<Column>) -> Snapshot
+        requires some { 0 < length columns.items }
+        requires shelf { IsShelf (first_rows count start columns.items) }
+        ensures held { ⟦<Snapshot as Shelf>⟧.held result ≡ first_rows count start columns.items }
+        ensures visits { ⟦<Snapshot as Shelf>⟧.visited result ≡ [] }
+    {
+        Snapshot {
+            rows: Rows {
+                count,
+                start,
+                columns,
+            },
+            visits: Vec::new(alloc),
+        }
+    }
+
+    /// Keeps the first n rows alone. The number of the first chunk and the visits stay. It takes no memory.
+    pub fn cut(&mut self, n: u64)
+        requires { n ≤ (⟦<Snapshot as Shelf>⟧.held self.old).rows }
+        ensures cut { IsCut n (⟦<Snapshot as Shelf>⟧.held self.old) (⟦<Snapshot as Shelf>⟧.held self.new) }
+        ensures visits { ⟦<Snapshot as Shelf>⟧.visited self.new ≡ ⟦<Snapshot as Shelf>⟧.visited self.old }
+    {
+        self.rows.cut(n);
+    }
+
+    /// As many snapshots as there are workers, without visits yet, whose rows one after another are those of this one.
+    /// They are cut at the ends of chunks, and their numbers of chunks differ by at most one. Each begins with the chunk
+    /// after the last one of that before it, also where one has no rows. The only error is want of memory.
+    pub fn parts(&self, alloc: Global, workers: u8) -> Result<Vec<Snapshot>, Memory>
+        requires { 0 < workers }
+        ensures count { IfOk result (λ p. length p.items ≡ workers) }
+        ensures rows { (column : ℕ) → column ≤ (⟦<Snapshot as Shelf>⟧.held self.now).columns → IfOk result (λ p. AreParts column (map ⟦<Snapshot as Shelf>⟧.held p.items) (⟦<Snapshot as Shelf>⟧.held self.now)) }
+        ensures columns { IfOk result (λ p. All (λ (h : Held). h.columns ≡ (⟦<Snapshot as Shelf>⟧.held self.now).columns) (map ⟦<Snapshot as Shelf>⟧.held p.items)) }
+        ensures chunks { IfOk result (λ p. GoOn (⟦<Snapshot as Shelf>⟧.held self.now).start (map ⟦<Snapshot as Shelf>⟧.held p.items)) }
+        ensures even { IfOk result (λ p. All (IsEven (chunks_of (⟦<Snapshot as Shelf>⟧.held self.now).rows) workers) (map ⟦<Snapshot as Shelf>⟧.held p.items)) }
+        ensures visits { IfOk result (λ p. All (λ s. ⟦<Snapshot as Shelf>⟧.visited s ≡ []) p.items) }
+    {
+        let chunks = self.rows.count().div_ceil(64);
+        let count = u64::from(workers);
+        let (least, longer) = (chunks / count, chunks % count);
+        let mut parts = Vec::with_capacity(alloc, workers as usize)?;
+        let mut low = 0;
+        for worker in 0..count {
+            let high = low + least + u64::from(worker < longer);
+            parts.push(self.part(alloc, low, high)?)?;
+            low = high;
+        }
+        Ok(parts)
+    }
+
+    // The chunks from one to below another, counted from 0.
+    fn part(&self, alloc: Global, low: u64, high: u64) -> Result<Snapshot, Memory>
+        requires order { low ≤ high }
+        requires there { high ≤ chunks_of (⟦<Snapshot as Shelf>⟧.held self.now).rows }
+        ensures held { IfOk result (λ s. IsPart low high (⟦<Snapshot as Shelf>⟧.held self.now) (⟦<Snapshot as Shelf>⟧.held s)) }
+        ensures visits { IfOk result (λ s. ⟦<Snapshot as Shelf>⟧.visited s ≡ []) }
+    {
+        let rows = self.rows.count();
+        let (first, end) = (rows.min(64 * low), rows.min(64 * high));
+        let columns = self.rows.between(alloc, first, end)?;
+        let start = self.rows.start + low as u32;
+        Ok(Snapshot::new(alloc, end - first, start, columns))
+    }
+}
+
+impl Shelf for Snapshot {
+    ghost held = { λ s. first_rows s.rows.count s.rows.start s.rows.columns.items };
+
+    ghost visited = { λ s. s.visits.items };
+
+    fn rows(&self) -> u64 {
+        self.rows.count()
+    }
+
+    fn first(&self) -> u32 {
+        self.rows.start
+    }
+
+    fn width(&self, column: u8) -> u64 {
+        self.rows.width(column)
+    }
+
+    fn visits(&self) -> &[Visit] {
+        self.visits.as_slice()
+    }
+
+    fn chunk(&mut self, c: u32, column: u8) -> Result<Lent<'_>, Memory> {
+        self.visits.push(Visit { column, chunk: c })?;
+        Ok(self.rows.chunk(c, column))
+    }
+}

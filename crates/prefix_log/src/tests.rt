@@ -1,0 +1,99 @@
+ghost use Rattle.std.specs.Prelude.{◌≡◌, IfOk};
+ghost use Rattle.prefix_log.specs.Logs.{IsOwn, empty_log};
+
+use super::*;
+use onehot_column::{Piece, pieces};
+use prg_chacha::Seed;
+use ring128::{Memory, Words};
+use scan_chunks::{Shelf, Tables, scan_one};
+use std::alloc::Global;
+use std::process::Abort;
+use table_schema::{Row, Widths};
+
+const WIDTHS: Widths = Widths {
+    columns: 1,
+    bits: [1, 0, 0, 0, 0, 0],
+};
+
+// Server 0's piece of a row with bucket 1.
+fn piece<R: Abort>(rt: &R, alloc: Global, widths: &Widths, n: u32) -> Result<Piece, Memory>
+    ensures { IfOk result (λ p. IsOwn 0 widths.now p) }
+{
+    let row = Row {
+        columns: 1,
+        buckets: [1, 0, 0, 0, 0, 0],
+        value: i64::from(n),
+    };
+    assert!(rt; widths.holds(&row));
+    let seed = Seed { words: [n; 8] };
+    Ok(pieces(alloc, widths, &row, &seed)?.zero)
+}
+
+// Server 0's log.
+fn log<R: Abort>(rt: &R, alloc: Global, widths: &Widths, capacity: u32) -> Result<ServerLog, Memory>
+    ensures { IfOk result (λ l. l ≡ empty_log 0 widths.now capacity) }
+{
+    assert!(rt; widths.fits(capacity));
+    ServerLog::new(alloc, 0, widths, capacity)
+}
+
+// The numbers of a scan of the first column.
+fn scan<R: Abort>(rt: &R, alloc: Global, snapshot: &mut Snapshot) -> Result<Words, Memory> {
+    assert!(rt; snapshot.width(0) == 2);
+    let tables = Tables {
+        zero: Words::from_vec(vec![in alloc; 1, 10]?),
+        one: Words::from_vec(vec![in alloc; 100, 1000]?),
+    };
+    scan_one(alloc, snapshot, 0, &tables)
+}
+
+#[test]
+fn a_place_keeps_its_first_piece(rt: HostRuntime) -> Result<(), Memory> {
+    let alloc = rt.alloc();
+    let mut log = log(&rt, alloc, &WIDTHS, 4)?;
+    log.place(1, piece(&rt, alloc, &WIDTHS, 1)?);
+    assert_eq!(rt; log.prefix(), 0);
+    log.place(0, piece(&rt, alloc, &WIDTHS, 2)?);
+    assert_eq!(rt; log.prefix(), 2);
+    let before = scan(&rt, alloc, &mut log.fix(alloc)?)?;
+    log.place(0, piece(&rt, alloc, &WIDTHS, 3)?);
+    assert_eq!(rt; log.prefix(), 2);
+    let mut snapshot = log.fix(alloc)?;
+    assert_eq!(rt; (snapshot.rows(), snapshot.first()), (2, 0));
+    let after = scan(&rt, alloc, &mut snapshot)?;
+    assert_eq!(rt; before.as_slice(), after.as_slice());
+    snapshot.cut(1);
+    assert_eq!(rt; (snapshot.rows(), snapshot.visits().len()), (1, 1));
+    let cut = scan(&rt, alloc, &mut snapshot)?;
+    assert!(rt; after.as_slice().starts_with(cut.as_slice()) && cut.len() == 1);
+    Ok(())
+}
+
+#[test]
+fn the_parts_of_65_rows_have_64_and_1(rt: HostRuntime) -> Result<(), Memory> {
+    let alloc = rt.alloc();
+    let mut log = log(&rt, alloc, &WIDTHS, 65)?;
+    for n in 0..65 {
+        log.place(n, piece(&rt, alloc, &WIDTHS, n as u32)?);
+    }
+    let mut snapshot = log.fix(alloc)?;
+    let mut parts = snapshot.parts(alloc, 2)?;
+    assert_eq!(rt; (parts[0].rows(), parts[0].first()), (64, 0));
+    assert_eq!(rt; (parts[1].rows(), parts[1].first()), (1, 1));
+    let whole = scan(&rt, alloc, &mut snapshot)?;
+    let first = scan(&rt, alloc, &mut parts[0])?;
+    let second = scan(&rt, alloc, &mut parts[1])?;
+    assert!(rt; whole.len() == 65 && first.len() == 64 && second.len() == 1);
+    assert!(rt; whole.as_slice().starts_with(first.as_slice()));
+    assert!(rt; whole.as_slice().ends_with(second.as_slice()));
+    Ok(())
+}
+
+#[test]
+fn the_prefix_is_found_place_by_place(rt: HostRuntime) {
+    assert_eq!(rt; prefix_of(&[]), 0);
+    assert_eq!(rt; prefix_of(&[1]), 0);
+    assert_eq!(rt; prefix_of(&[1, 0]), 2);
+    assert_eq!(rt; prefix_of(&[0, 2, 5]), 1);
+    assert_eq!(rt; prefix_of(&[2, 0, 1]), 3);
+}
