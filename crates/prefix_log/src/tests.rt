@@ -1,4 +1,4 @@
-ghost use Rattle.std.specs.Prelude.{◌≡◌, IfOk};
+ghost use Rattle.std.specs.Prelude.{◌≡◌, ◌≤◌, IfOk};
 ghost use Rattle.prefix_log.specs.Logs.{IsOwn, empty_log};
 
 use super::*;
@@ -37,6 +37,24 @@ fn log<R: Abort>(rt: &R, alloc: Global, widths: &Widths, capacity: u32) -> Resul
     ServerLog::new(alloc, 0, widths, capacity)
 }
 
+// Puts a piece at each of the first places.
+fn fill<R: Abort>(
+    rt: &R,
+    alloc: Global,
+    widths: &Widths,
+    log: &mut ServerLog,
+    count: u32,
+) -> Result<(), Memory>
+    requires server { log.old.server ≡ 0 }
+    requires widths { log.old.widths ≡ widths.now }
+    requires room { count ≤ log.old.capacity }
+{
+    for n in 0..count {
+        log.place(u64::from(n), piece(rt, alloc, widths, n)?);
+    }
+    Ok(())
+}
+
 // The numbers of a scan of the first column.
 fn scan<R: Abort>(rt: &R, alloc: Global, snapshot: &mut Snapshot) -> Result<Words, Memory> {
     assert!(rt; snapshot.width(0) == 2);
@@ -62,6 +80,7 @@ fn a_place_keeps_its_first_piece(rt: HostRuntime) -> Result<(), Memory> {
     assert_eq!(rt; (snapshot.rows(), snapshot.first()), (2, 0));
     let after = scan(&rt, alloc, &mut snapshot)?;
     assert_eq!(rt; before.as_slice(), after.as_slice());
+    assert_eq!(rt; snapshot.rows(), 2);
     snapshot.cut(1);
     assert_eq!(rt; (snapshot.rows(), snapshot.visits().len()), (1, 1));
     let cut = scan(&rt, alloc, &mut snapshot)?;
@@ -72,10 +91,9 @@ fn a_place_keeps_its_first_piece(rt: HostRuntime) -> Result<(), Memory> {
 #[test]
 fn the_parts_of_65_rows_have_64_and_1(rt: HostRuntime) -> Result<(), Memory> {
     let alloc = rt.alloc();
-    let mut log = log(&rt, alloc, &WIDTHS, 65)?;
-    for n in 0..65 {
-        log.place(n, piece(&rt, alloc, &WIDTHS, n as u32)?);
-    }
+    let widths = WIDTHS;
+    let mut log = log(&rt, alloc, &widths, 65)?;
+    fill(&rt, alloc, &widths, &mut log, 65)?;
     let mut snapshot = log.fix(alloc)?;
     let mut parts = snapshot.parts(alloc, 2)?;
     assert_eq!(rt; (parts[0].rows(), parts[0].first()), (64, 0));
