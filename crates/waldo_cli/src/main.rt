@@ -1,7 +1,7 @@
 //! The program: command words, standard input and standard output.
 //!
-//! It never looks at a word or a byte itself: it hands the words, a source over standard input and a sink over
-//! standard output to the top call, and ends with the status that this answers.
+//! It never looks at a word or a byte itself: it hands the words, a source over standard input, a sink over standard
+//! output and sixteen wires that alter nothing to the top call, and ends with the status that this answers.
 #![tactic(auto)]
 
 mod ends;

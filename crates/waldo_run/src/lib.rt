@@ -1,13 +1,14 @@
 //! The top call: command words and bytes in, one text and a status out.
 //!
-//! [`run_still`] reads the words, then the input, answers the query and puts the whole report in one piece. Its contract is
-//! the program's: the report is a function of words and bytes, and every other status has its cause. It never puts a
-//! part of a report by itself, and reads nothing where the words are refused.
+//! [`run_still`] reads the words, then the input, asks the query of three servers through the first of 16 wires, and puts the
+//! whole report in one piece. Its contract is the program's: the wire carried the query's messages word for word, the report is
+//! a function of words, bytes and what these messages opened, over an unaltered wire of words and bytes alone, and every other
+//! status has its cause. It never puts a part of a report by itself, and reads nothing where the words are refused.
 //!
 //! ```text
 //! let mut source = MemorySource::new(alloc, b"host,value\n3,10\n", &[])?;
 //! let mut sink = MemorySink::new(alloc, 100, &[])?;
-//! let status = run_still(alloc, &words, &mut source, &mut sink); // ask host:2 --query "count host=3"
+//! let status = run_still(&rt, alloc, &words, &mut source, &mut sink, &mut wires); // ask host:2 --query "count host=3"
 //! // status is 0, and the sink has "ask 0 rows 1 count 1\n"
 //! ```
 #![tactic(auto)]
