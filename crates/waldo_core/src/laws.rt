@@ -1,0 +1,13 @@
+//! What the definitions say together, as functions without effect.
+
+ghost use Rattle.waldo_core.specs.Laws.{LegalStays, PrefixIsLargest};
+
+/// The prefix of a journal is the largest number such that each place below it is there.
+pub fn prefix_is_largest()
+    ensures { PrefixIsLargest }
+{}
+
+/// A core in which nothing was drawn is legal, and every step keeps a legal core legal.
+pub fn legal_stays()
+    ensures { LegalStays }
+{}
