@@ -1,0 +1,6 @@
+pub mod History
+pub mod Laws
+pub mod Plain
+pub mod Stages
+pub mod Tasks
+pub mod Wires
