@@ -1,16 +1,53 @@
 -- What the definitions say together.
-use Rattle.std.specs.Prelude.{ℕ, ◌≡◌, ◌≤◌, false, Result, Ok, List, length}
-use Rattle.waldo_core.specs.Core.{Core}
+use Rattle.std.specs.Prelude.{ℕ, ◌≡◌, ◌≤◌, ◌+◌, ◌*◌, false, Result, Ok, Err, List, [], ◌∷◌, length}
+use Rattle.query_plan.specs.Seeds.{weights_of}
+use Rattle.query_plan.specs.Views.{key_from}
+use Rattle.query_plan.specs.declared.query.Query.{Query}
+use Rattle.report_lines.specs.declared.lines.Line.{Line}
+use Rattle.report_lines.specs.declared.lines.Line.TheVariants as lines
+use Rattle.report_lines.specs.declared.lines.Who.TheVariants.{Single}
+use Rattle.server_rounds.specs.declared.opened.OpenedPair.{OpenedPair}
+use Rattle.prg_chacha.specs.Prg.{derive_of}
+use Rattle.weighted_check.specs.Check.{checked}
+use Rattle.weighted_check.specs.declared.Altered.{Altered}
+use Rattle.schedule_play.specs.History.{Done, opened_in, pair_at}
 use Rattle.schedule_play.specs.Plain.{plain_lines, plainly}
 use Rattle.schedule_play.specs.Stages.{Stage, played}
 use Rattle.schedule_play.specs.Tasks.{IsSetting, Setting, asking}
 
--- the last stage has these lines, and no check refused a pair
-abbrev pub EndsPlainly : List Line → Result Stage ℕ → Type 0
-EndsPlainly lines (Ok stage) = (stage.lines ≡ lines) × (stage.altered ≡ false)
-EndsPlainly lines (Err t) = ⊥
+-- the line of query i over n rows, by what the check says
+abbrev pub checked_line : ℕ → ℕ → Query → Result ℕ Altered → Line
+checked_line n i query (Ok total) = lines.Answer (Single i) n query.aggregate total
+checked_line n i query (Err pair) = lines.Altered (Single i) n pair.total pair.weighted
 
--- Rows that are appended one after another and then asked each query: where nothing is altered, each answer is the plain one over all
--- rows.
+-- the lines of queries over all rows, the first of which has this number, by the pairs that they opened
+abbrev pub asked_lines : Setting → (ℕ → OpenedPair) → ℕ → List Query → List Line
+asked_lines s pairs i [] = []
+asked_lines s pairs i (q ∷ qs) =
+    let pair = pairs i in
+    let key = key_from (weights_of (derive_of s.master 2 0 i) 1) q.count in
+    checked_line (length s.rows) i q (checked pair.total pair.weighted key) ∷ asked_lines s pairs (i + 1) qs
+
+-- the pair that query i opened: its answer is the last of four steps, and those of all rows come before
+abbrev pub pair_of_query : Setting → List Done → ℕ → OpenedPair
+pair_of_query s history i = pair_at history (4 * length s.rows + 4 * i + 3)
+
+-- the last stage has these lines
+abbrev pub EndsInLines : List Line → Result Stage ℕ → Type 0
+EndsInLines report (Ok stage) = stage.lines ≡ report
+EndsInLines report (Err t) = ⊥
+
+-- Rows that are appended one after another and then asked each query: no step is without a case, and each query has one line, over all
+-- rows, by the pair that it opened.
+abbrev pub AskedInOrder : Type 0
+AskedInOrder = (s : Setting) (history : List Done) → IsSetting s
+    → EndsInLines (asked_lines s (pair_of_query s history) 0 s.queries) (played (opened_in history) (asking s))
+
+-- the same, and no check refused a pair
+abbrev pub EndsPlainly : List Line → Result Stage ℕ → Type 0
+EndsPlainly report (Ok stage) = (stage.lines ≡ report) × (stage.altered ≡ false)
+EndsPlainly report (Err t) = ⊥
+
+-- Where nothing is altered, each line is the plain answer over all rows.
 abbrev pub AskedPlainly : Type 0
-AskedPlainly = (s : Setting) → IsSetting s → length s.rows ≤ 65536 → EndsPlainly (plain_lines s.rows 0 s.queries) (played (plainly s) (asking s))
+AskedPlainly = (s : Setting) → IsSetting s → EndsPlainly (plain_lines s.rows 0 s.queries) (played (plainly s) (asking s))
