@@ -1,12 +1,13 @@
 -- The messages of steps, and what they opened.
-use Rattle.std.specs.Prelude.{ℕ, ◌≡◌, ◌==◌, ◌⊎◌, ⊤, Bool, true, false, if◌then◌else◌, Option, Some, None, List, [], ◌∷◌, slice_index_or}
+use Rattle.std.specs.Prelude.{ℕ, zero, suc, ◌≡◌, ◌==◌, ◌⊎◌, ◌&&◌, ◌++◌, ⊤, Bool, true, false, if◌then◌else◌, Option, Some, None, List, [], ◌∷◌, slice_index_or}
 use Rattle.std.specs.List.{flat_map, list_any}
+use Rattle.table_schema.specs.declared.widths.Widths.{Widths}
 use Rattle.server_rounds.specs.declared.opened.OpenedPair.{OpenedPair}
 use Rattle.wire_line.specs.declared.message.Message.{Message}
 use Rattle.waldo_core.specs.Answers.{Begins, Carries}
 use Rattle.waldo_core.specs.declared.events.Event.{Event}
-use Rattle.waldo_words.specs.declared.steps.Step.{Step}
-use Rattle.waldo_words.specs.declared.steps.Step.TheVariants as steps
+use Rattle.waldo_words.specs.declared.schedule.Step.{Step}
+use Rattle.waldo_words.specs.declared.schedule.Step.TheVariants as steps
 use Rattle.schedule_play.specs.Stages.{Opening, Stage, actor_in, event_of, first_stage, next_stage}
 use Rattle.schedule_play.specs.Tasks.{Setting, Task}
 use Rattle.schedule_play.specs.declared.style.Style.{Style}
@@ -18,53 +19,53 @@ pub record Done : Type 0 where
   pub pair : OpenedPair
 
 -- these are the messages of an event, and they open this pair
-abbrev pub CarriesOf : Setting → Stage → Option Event → Done → Type 0
-CarriesOf s stage None d = ⊥
-CarriesOf s stage (Some event) d = Carries s.widths stage.core event d.messages d.pair
+abbrev pub CarriesOf : Widths → Setting → Stage → Option Event → Done → Type 0
+CarriesOf w s stage None d = ⊥
+CarriesOf w s stage (Some event) d = Carries w stage.core event d.messages d.pair
 
-abbrev pub IsCarried : Setting → Stage → Done → Type 0
-IsCarried s stage d = CarriesOf s stage (event_of s stage d.step) d
+abbrev pub IsCarried : Widths → Setting → Stage → Done → Type 0
+IsCarried w s stage d = CarriesOf w s stage (event_of s stage d.step) d
 
 -- a step has no case, whatever it would open
 abbrev pub HasNoCase : Setting → Style → Stage → Step → Type 0
 HasNoCase s style stage x = (pair : OpenedPair) → next_stage s style stage x pair ≡ None
 
 -- all steps were done with their messages, or all before the first one without a case
-abbrev pub IsHistory : Setting → Style → Stage → List Step → List Done → Type 0
-IsHistory s style stage [] [] = ⊤
-IsHistory s style stage [] (d ∷ ds) = ⊥
-IsHistory s style stage (x ∷ xs) [] = HasNoCase s style stage x
-IsHistory s style stage (x ∷ xs) (d ∷ ds) = (d.step ≡ x) × IsCarried s stage d × GoesOn s style (next_stage s style stage x d.pair) xs ds
+abbrev pub IsHistory : Widths → Setting → Style → Stage → List Step → List Done → Type 0
+IsHistory w s style stage [] [] = ⊤
+IsHistory w s style stage [] (d ∷ ds) = ⊥
+IsHistory w s style stage (x ∷ xs) [] = HasNoCase s style stage x
+IsHistory w s style stage (x ∷ xs) (d ∷ ds) = (d.step ≡ x) × IsCarried w s stage d × GoesOn w s style (next_stage s style stage x d.pair) xs ds
 
-abbrev pub GoesOn : Setting → Style → Option Stage → List Step → List Done → Type 0
-GoesOn s style None xs ds = ⊥
-GoesOn s style (Some stage) xs ds = IsHistory s style stage xs ds
+abbrev pub GoesOn : Widths → Setting → Style → Option Stage → List Step → List Done → Type 0
+GoesOn w s style None xs ds = ⊥
+GoesOn w s style (Some stage) xs ds = IsHistory w s style stage xs ds
 
 -- the first messages of an event
-abbrev pub BeginsOf : Setting → Stage → Option Event → Done → Type 0
-BeginsOf s stage None d = d.messages ≡ []
-BeginsOf s stage (Some event) d = Begins s.widths stage.core event d.messages
+abbrev pub BeginsOf : Widths → Setting → Stage → Option Event → Done → Type 0
+BeginsOf w s stage None d = d.messages ≡ []
+BeginsOf w s stage (Some event) d = Begins w stage.core event d.messages
 
-abbrev pub IsBegun : Setting → Stage → Done → Type 0
-IsBegun s stage d = BeginsOf s stage (event_of s stage d.step) d
+abbrev pub IsBegun : Widths → Setting → Stage → Done → Type 0
+IsBegun w s stage d = BeginsOf w s stage (event_of s stage d.step) d
 
 -- some first steps were done, the last of which may have sent just the first of its messages
-abbrev pub Breaks : Setting → Style → Stage → List Step → List Done → Type 0
-Breaks s style stage xs [] = ⊤
-Breaks s style stage [] (d ∷ ds) = ⊥
-Breaks s style stage (x ∷ xs) (d ∷ ds) =
-    (d.step ≡ x) × ((IsCarried s stage d × BreaksOn s style (next_stage s style stage x d.pair) xs ds) ⊎ (IsBegun s stage d × (ds ≡ [])))
+abbrev pub Breaks : Widths → Setting → Style → Stage → List Step → List Done → Type 0
+Breaks w s style stage xs [] = ⊤
+Breaks w s style stage [] (d ∷ ds) = ⊥
+Breaks w s style stage (x ∷ xs) (d ∷ ds) =
+    (d.step ≡ x) × ((IsCarried w s stage d × BreaksOn w s style (next_stage s style stage x d.pair) xs ds) ⊎ (IsBegun w s stage d × (ds ≡ [])))
 
-abbrev pub BreaksOn : Setting → Style → Option Stage → List Step → List Done → Type 0
-BreaksOn s style None xs ds = ⊥
-BreaksOn s style (Some stage) xs ds = Breaks s style stage xs ds
+abbrev pub BreaksOn : Widths → Setting → Style → Option Stage → List Step → List Done → Type 0
+BreaksOn w s style None xs ds = ⊥
+BreaksOn w s style (Some stage) xs ds = Breaks w s style stage xs ds
 
 -- the history of a task, and that of one that was broken off
-abbrev pub HasHistory : Task → List Done → Type 0
-HasHistory task history = IsHistory task.setting task.style first_stage task.steps history
+abbrev pub HasHistory : Widths → Task → List Done → Type 0
+HasHistory w task history = IsHistory w task.setting task.style first_stage task.steps history
 
-abbrev pub HasBroken : Task → List Done → Type 0
-HasBroken task history = Breaks task.setting task.style first_stage task.steps history
+abbrev pub HasBroken : Widths → Task → List Done → Type 0
+HasBroken w task history = Breaks w task.setting task.style first_stage task.steps history
 
 -- what stands for a step that was not done
 abbrev pub nothing_opened : OpenedPair

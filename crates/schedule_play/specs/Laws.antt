@@ -8,6 +8,7 @@ use Rattle.report_lines.specs.declared.lines.Line.TheVariants as lines
 use Rattle.report_lines.specs.declared.lines.Who.TheVariants.{Single}
 use Rattle.server_rounds.specs.declared.opened.OpenedPair.{OpenedPair}
 use Rattle.prg_chacha.specs.Prg.{derive_of}
+use Rattle.table_schema.specs.declared.widths.Widths.{Widths}
 use Rattle.weighted_check.specs.Check.{checked}
 use Rattle.weighted_check.specs.declared.Altered.{Altered}
 use Rattle.schedule_play.specs.History.{Done, opened_in, pair_at}
@@ -40,7 +41,7 @@ EndsInLines report (Err t) = ⊥
 -- Rows that are appended one after another and then asked each query: no step is without a case, and each query has one line, over all
 -- rows, by the pair that it opened.
 abbrev pub AskedInOrder : Type 0
-AskedInOrder = (s : Setting) (history : List Done) → IsSetting s
+AskedInOrder = (w : Widths) (s : Setting) (history : List Done) → IsSetting w s
     → EndsInLines (asked_lines s (pair_of_query s history) 0 s.queries) (played (opened_in history) (asking s))
 
 -- the same, and no check refused a pair
@@ -50,4 +51,4 @@ EndsPlainly report (Err t) = ⊥
 
 -- Where nothing is altered, each line is the plain answer over all rows.
 abbrev pub AskedPlainly : Type 0
-AskedPlainly = (s : Setting) → IsSetting s → EndsPlainly (plain_lines s.rows 0 s.queries) (played (plainly s) (asking s))
+AskedPlainly = (w : Widths) (s : Setting) → IsSetting w s → EndsPlainly (plain_lines s.rows 0 s.queries) (played (plainly s) (asking s))

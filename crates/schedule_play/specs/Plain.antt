@@ -12,7 +12,7 @@ use Rattle.waldo_core.specs.Answers.{IsPlain, plain_pair, rows_agreed}
 use Rattle.waldo_core.specs.declared.events.Event.{Event}
 use Rattle.waldo_core.specs.declared.events.Event.TheVariants as events
 use Rattle.waldo_core.specs.Core.{Core}
-use Rattle.waldo_words.specs.declared.steps.Step.{Step}
+use Rattle.waldo_words.specs.declared.schedule.Step.{Step}
 use Rattle.schedule_play.specs.History.{Done, nothing_opened}
 use Rattle.schedule_play.specs.Stages.{Opening, Stage, actor_in, event_of, next_stage}
 use Rattle.schedule_play.specs.Tasks.{Setting}

@@ -1,5 +1,6 @@
 -- What a task comes to: its messages over the wires, and its lines or the first step without a case.
 use Rattle.std.specs.Prelude.{ℕ, ◌≡◌, Result, Ok, Err, List}
+use Rattle.table_schema.specs.declared.widths.Widths.{Widths}
 use Rattle.schedule_play.specs.History.{Done, HasBroken, HasHistory, opened_in}
 use Rattle.schedule_play.specs.Plain.{ArePlain}
 use Rattle.schedule_play.specs.Stages.{Stage, first_stage, played}
@@ -11,7 +12,7 @@ use Rattle.schedule_play.specs.declared.setting.Setting.{Setting}
 
 -- a setting as it is seen
 abbrev pub seen : Setting → Seen
-seen s = record { widths = s.widths; rows = s.rows.now; queries = s.queries.now; master = s.master }
+seen s = record { rows = s.rows.now; queries = s.queries.now; master = s.master }
 
 -- the last stage has this report, and says whether a check refused a pair
 abbrev pub EndsWith : Played → Result Stage ℕ → Type 0
@@ -20,14 +21,14 @@ EndsWith p (Err t) = ⊥
 
 -- All steps were done and give this report; or a step has no case, the first one with this number; or for want of memory some first
 -- steps were done, the last of which may have sent just the first of its messages.
-abbrev pub Ended : Task → List Done → Result Played PlayFault → Type 0
-Ended task history (Ok p) = HasHistory task history × EndsWith p (played (opened_in history) task)
-Ended task history (Err (NotAllowed t)) = HasHistory task history × (played (opened_in history) task ≡ Err t)
-Ended task history (Err Memory) = HasBroken task history
+abbrev pub Ended : Widths → Task → List Done → Result Played PlayFault → Type 0
+Ended w task history (Ok p) = HasHistory w task history × EndsWith p (played (opened_in history) task)
+Ended w task history (Err (NotAllowed t)) = HasHistory w task history × (played (opened_in history) task ≡ Err t)
+Ended w task history (Err Memory) = HasBroken w task history
 
 -- The steps sent these messages over the wires; over an unaltered wire each answer opened the plain one; and this is what they came to.
-pub record Plays (task : Task) (carried : List Done → Type 0) (unaltered : ℕ → Type 0) (result : Result Played PlayFault) : Type 0 where
+pub record Plays (w : Widths) (task : Task) (carried : List Done → Type 0) (unaltered : ℕ → Type 0) (result : Result Played PlayFault) : Type 0 where
   pub history : List Done
   pub sent : carried history
   pub plain : ArePlain unaltered task.setting task.style first_stage history
-  pub ended : Ended task history result
+  pub ended : Ended w task history result

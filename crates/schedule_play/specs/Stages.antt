@@ -17,8 +17,8 @@ use Rattle.waldo_core.specs.declared.events.Event.{Event}
 use Rattle.waldo_core.specs.declared.events.Event.TheVariants as events
 use Rattle.waldo_core.specs.declared.events.Reply.{Reply}
 use Rattle.waldo_core.specs.declared.events.Reply.TheVariants as replies
-use Rattle.waldo_words.specs.declared.steps.Step.{Step}
-use Rattle.waldo_words.specs.declared.steps.Step.TheVariants as steps
+use Rattle.waldo_words.specs.declared.schedule.Step.{Step}
+use Rattle.waldo_words.specs.declared.schedule.Step.TheVariants as steps
 use Rattle.schedule_play.specs.Tasks.{Setting, Task, room_of}
 use Rattle.schedule_play.specs.declared.style.Style.{Style}
 use Rattle.schedule_play.specs.declared.style.Style.TheVariants.{Queries, Rounds}

@@ -7,14 +7,13 @@ use Rattle.query_plan.specs.declared.query.Query.{Query}
 use Rattle.table_schema.specs.Widths.{Fits, Holds, column_bits}
 use Rattle.table_schema.specs.declared.rows.Row.{Row}
 use Rattle.table_schema.specs.declared.widths.Widths.{Widths}
-use Rattle.waldo_words.specs.declared.steps.Step.{Step}
-use Rattle.waldo_words.specs.declared.steps.Step.TheVariants as steps
+use Rattle.waldo_words.specs.declared.schedule.Step.{Step}
+use Rattle.waldo_words.specs.declared.schedule.Step.TheVariants as steps
 use Rattle.schedule_play.specs.declared.style.Style.{Style}
 use Rattle.schedule_play.specs.declared.style.Style.TheVariants.{Queries, Rounds}
 
--- the widths of the rows, the rows, the queries and the master seed
+-- the rows, the queries and the master seed
 pub record Setting : Type 0 where
-  pub widths : Widths
   pub rows : List Row
   pub queries : List Query
   pub master : Seed
@@ -24,11 +23,11 @@ abbrev pub room_of : Setting → ℕ
 room_of s = max 1 (length s.rows)
 
 -- rows that the widths hold, for which the machine has room, and legal queries
-pub record IsSetting (s : Setting) : Type 0 where
-  pub held : All (Holds s.widths) s.rows
-  pub fits : Fits (column_bits s.widths) (room_of s)
+pub record IsSetting (w : Widths) (s : Setting) : Type 0 where
+  pub held : All (Holds w) s.rows
+  pub fits : Fits (column_bits w) (room_of s)
   pub places : All (λ (q : Query). length q.predicates ≡ 4) s.queries
-  pub suits : All (λ (q : Query). Suits s.widths.columns s.widths.bits q) s.queries
+  pub suits : All (λ (q : Query). Suits w.columns w.bits q) s.queries
 
 -- a setting, how its steps are reported, and the steps
 pub record Task : Type 0 where

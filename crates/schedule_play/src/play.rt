@@ -34,13 +34,13 @@ pub fn ask<R: Threads + Sync, W: Wire>(
     setting: &Setting<'_>,
     wires: &mut Vec<W>,
 ) -> Result<Played, PlayFault>
-    requires legal { IsSetting (seen setting.now) }
+    requires legal { IsSetting setting.now.widths (seen setting.now) }
     requires queries { length setting.now.queries.now ≤ 16 }
     requires some { 1 ≤ setting.now.workers }
     requires few { setting.now.workers ≤ 16 }
     requires wires { length wires.old.items ≡ 16 }
     ensures wires { length wires.new.items ≡ 16 }
-    ensures plays { Plays (asking (seen setting.now)) (λ history. WiresWent W.told W.alterations W.passes history 0 wires.old.items wires.new.items) (λ actor. ¬ RoseAt W.alterations actor wires.old.items wires.new.items) result }
+    ensures plays { Plays setting.now.widths (asking (seen setting.now)) (λ history. WiresWent W.told W.alterations W.passes history 0 wires.old.items wires.new.items) (λ actor. ¬ RoseAt W.alterations actor wires.old.items wires.new.items) result }
 {
     Err(PlayFault::Memory)
 }
@@ -53,13 +53,13 @@ pub fn replay<R: Threads + Sync, W: Wire>(
     schedule: &[Step],
     wires: &mut Vec<W>,
 ) -> Result<Played, PlayFault>
-    requires legal { IsSetting (seen setting.now) }
+    requires legal { IsSetting setting.now.widths (seen setting.now) }
     requires short { length schedule.now ≤ 4096 }
     requires some { 1 ≤ setting.now.workers }
     requires few { setting.now.workers ≤ 16 }
     requires wires { length wires.old.items ≡ 16 }
     ensures wires { length wires.new.items ≡ 16 }
-    ensures plays { Plays (scheduled (seen setting.now) schedule.now) (λ history. WiresWent W.told W.alterations W.passes history 0 wires.old.items wires.new.items) (λ actor. ¬ RoseAt W.alterations actor wires.old.items wires.new.items) result }
+    ensures plays { Plays setting.now.widths (scheduled (seen setting.now) schedule.now) (λ history. WiresWent W.told W.alterations W.passes history 0 wires.old.items wires.new.items) (λ actor. ¬ RoseAt W.alterations actor wires.old.items wires.new.items) result }
 {
     Err(PlayFault::Memory)
 }
