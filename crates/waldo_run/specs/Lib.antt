@@ -1,6 +1,5 @@
-pub mod Asking
+pub mod Made
 pub mod Replies
-pub mod Table
 pub mod Run
+pub mod Tasks
 pub mod Words
-pub mod Wires

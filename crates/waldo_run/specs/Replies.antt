@@ -1,27 +1,22 @@
 -- The reply to each command and each way in which the input was met.
-use Rattle.std.specs.Prelude.{◌≡◌, ◌≢◌, ℕ, zero, suc, Bool, true, false, MatchBool, Result, Ok, Err, List, [], ◌∷◌, length, map, min}
+use Rattle.std.specs.Prelude.{◌≡◌, ◌≢◌, ℕ, zero, suc, Bool, true, false, if◌then◌else◌, MatchBool, Result, Ok, Err, List, [], ◌∷◌}
 use Rattle.row_source.specs.Input.{Reading}
 use Rattle.row_source.specs.Input.Reading.{Untouched, Whole, Long, Broken}
-use Rattle.row_source.specs.Rows.{rows_of, input_records}
 use Rattle.row_source.specs.declared.faults.RowFault.{RowFault}
 use Rattle.row_source.specs.declared.faults.RowFault.TheVariants as row
 use Rattle.report_lines.specs.declared.lines.Line.{Line}
 use Rattle.report_lines.specs.declared.lines.Line.TheVariants as lines
-use Rattle.report_lines.specs.declared.lines.Who.TheVariants.{Single}
-use Rattle.table_schema.specs.Widths.{largest_in}
 use Rattle.table_schema.specs.declared.rows.Row.{Row}
-use Rattle.table_schema.specs.declared.schema.Column.{Column}
-use Rattle.onehot_column.specs.Code.{word_of}
-use Rattle.server_rounds.specs.declared.opened.OpenedPair.{OpenedPair}
-use Rattle.transcript.specs.Plain.{plain}
-use Rattle.waldo_run.specs.Asking.{key_for}
-use Rattle.weighted_check.specs.Check.{checked}
-use Rattle.weighted_check.specs.declared.Altered.{Altered}
-use Rattle.waldo_run.specs.declared.words.Ask.{Ask}
-use Rattle.waldo_run.specs.declared.words.Command.{Command}
-use Rattle.waldo_run.specs.declared.words.Command.TheVariants as commands
-use Rattle.waldo_run.specs.declared.words.WordFault.{WordFault}
-use Rattle.waldo_run.specs.declared.words.WordFault.TheVariants as words
+use Rattle.schedule_play.specs.History.{Done, opened_in}
+use Rattle.schedule_play.specs.Plain.{plain_lines, plainly}
+use Rattle.schedule_play.specs.Stages.{Stage, played}
+use Rattle.schedule_play.specs.Tasks.{Setting, Task}
+use Rattle.schedule_play.specs.declared.style.Style.{Style}
+use Rattle.schedule_play.specs.declared.style.Style.TheVariants.{Queries, Rounds}
+use Rattle.waldo_words.specs.declared.command.Command.{Command}
+use Rattle.waldo_words.specs.declared.faults.WordFault.{WordFault}
+use Rattle.waldo_words.specs.declared.faults.WordFault.TheVariants as words
+use Rattle.waldo_run.specs.Tasks.{common_in, reads_input, rows_in, rows_made, task_over}
 
 -- a status and a report
 pub record Reply : Type 0 where
@@ -48,59 +43,48 @@ row_refusal (row.BadRecord number why) = single 5 (lines.BadRecord number why)
 row_refusal (row.TooMany capacity) = single 5 (lines.TooMany capacity)
 row_refusal row.Memory = no_reply
 
--- the rows of the input, of which there are at most as many as a table of these columns takes
-abbrev pub rows_in : List Column → List ℕ → Result (List Row) RowFault
-rows_in columns bytes = rows_of columns (largest_in (map (λ (c : Column). c.bits) columns)) (input_records bytes)
+-- the reply to what steps came to: their lines, or the first step without a case, alone
+abbrev pub ended : Result Stage ℕ → Reply
+ended (Ok stage) = record { status = if stage.altered then 7 else 0; report = stage.lines }
+ended (Err t) = single 2 (lines.BadStep t)
 
--- the reply of `ask` to the rows, of which there are so many: its answer, or the pair that the check refused
-abbrev pub reply_for : Ask → ℕ → Result ℕ Altered → Reply
-reply_for ask rows (Ok total) = single 0 (lines.Answer (Single 0) rows ask.query.aggregate total)
-reply_for ask rows (Err pair) = single 7 (lines.Altered (Single 0) rows pair.total pair.weighted)
+-- how a task is answered: by what its answers opened, or plainly
+abbrev pub Answering : Type 0
+Answering = Task → Reply
 
--- how a query is answered over rows: by the pair that it opened, or plainly
-abbrev pub checked_answer : OpenedPair → Ask → List Row → Reply
-checked_answer pair ask rows = reply_for ask (length rows) (checked pair.total pair.weighted (key_for ask))
+abbrev pub checked_answer : List Done → Answering
+checked_answer history task = ended (played (opened_in history) task)
 
-abbrev pub plain_answer : Ask → List Row → Reply
-plain_answer ask rows = reply_for ask (length rows) (Ok (word_of (plain ask.query rows)))
+-- rows that are appended and then asked: the plain answer of each query over all of them; a schedule: the core's replies, with each answer plain
+abbrev pub plain_in : Style → Task → Reply
+plain_in Queries task = record { status = 0; report = plain_lines task.setting.rows 0 task.setting.queries }
+plain_in Rounds task = ended (played (plainly task.setting) task)
 
--- the reply of `ask` to the rows of its input, or to their first fault
-abbrev pub answered : (Ask → List Row → Reply) → Ask → Result (List Row) RowFault → Reply
-answered answer ask (Err fault) = row_refusal fault
-answered answer ask (Ok rows) = answer ask rows
+abbrev pub plain_answer : Answering
+plain_answer task = plain_in task.style task
 
--- the commands that read the input
-abbrev pub reads_input : Command → Bool
-reads_input (commands.Ask ask) = true
+-- the reply of a command to its rows, or to the first fault of its input
+abbrev pub reply_over : Answering → Command → Result (List Row) RowFault → Reply
+reply_over answer command (Err fault) = row_refusal fault
+reply_over answer command (Ok rows) = answer (task_over command rows)
 
--- the reply of a command that reads to all bytes of the input
-abbrev pub reply_to_input : (Ask → List Row → Reply) → Command → List ℕ → Reply
-reply_to_input answer (commands.Ask ask) bytes = answered answer ask (rows_in ask.schema bytes)
-
--- an input that the command refuses
-abbrev pub IsRefused : Result (List Row) RowFault → Type 0
-IsRefused (Err fault) = fault ≢ row.Memory
-IsRefused (Ok rows) = ⊥
-
-abbrev pub RefusesInput : Command → List ℕ → Type 0
-RefusesInput (commands.Ask ask) bytes = IsRefused (rows_in ask.schema bytes)
-
--- the reply of a command that does not read
-abbrev pub reply_unread : Command → Reply
-reply_unread (commands.Ask ask) = no_reply
-
--- The reply to the words, over what reading gave, by how a query is answered. The order of refusals is the order of these cases.
-abbrev pub reply_to : (Ask → List Row → Reply) → Result Command WordFault → Reading → Reply
+-- The reply to the words, over what reading gave, by how a task is answered. The order of refusals is the order of these cases.
+abbrev pub reply_to : Answering → Result Command WordFault → Reading → Reply
 reply_to answer (Err fault) reading = refusal fault
-reply_to answer (Ok command) Untouched = reply_unread command
+reply_to answer (Ok command) Untouched = reply_over answer command (Ok (rows_made command))
 reply_to answer (Ok command) Broken = single 3 lines.ReadFault
 reply_to answer (Ok command) Long = single 5 lines.TooLong
-reply_to answer (Ok command) (Whole bytes) = reply_to_input answer command bytes
+reply_to answer (Ok command) (Whole bytes) = reply_over answer command (rows_in (common_in command) bytes)
 
 -- the words are refused before any read, and just the commands that read do so
 abbrev pub Suits : Result Command WordFault → Reading → Type 0
 Suits (Err fault) reading = reading ≡ Untouched
 Suits (Ok command) reading = MatchBool (reads_input command) (reading ≢ Untouched) (reading ≡ Untouched)
+
+-- an input that gives no rows
+abbrev pub IsRefused : Result (List Row) RowFault → Type 0
+IsRefused (Err fault) = fault ≢ row.Memory
+IsRefused (Ok rows) = ⊥
 
 -- a failed put turns status 0 into 4, and no other status
 abbrev pub after_failed_put : ℕ → ℕ

@@ -1,5 +1,5 @@
 -- What a run does to its source, its wires and its sink, and with what status it ends.
-use Rattle.std.specs.Prelude.{◌≡◌, ◌<◌, ◌⊎◌, ℕ, nat_le, if◌then◌else◌, Option, Result, Ok, Err, List, [], length}
+use Rattle.std.specs.Prelude.{◌≡◌, ◌≢◌, ◌<◌, ◌⊎◌, ⊤, false, ℕ, nat_le, if◌then◌else◌, Option, Result, Ok, Err, List, [], length}
 use Rattle.std.specs.Io.KnownBytes.{Keeps, Appends}
 use Rattle.fault_count.specs.Causes.{Rose}
 use Rattle.report_lines.specs.Line.{text_of}
@@ -7,15 +7,16 @@ use Rattle.report_lines.specs.Sink.{AppendsFront}
 use Rattle.row_source.specs.Input.{Reading, Reads, most_bytes}
 use Rattle.row_source.specs.Input.Reading.{Untouched, Whole, Long, Broken}
 use Rattle.row_source.specs.declared.faults.RowFault.{RowFault}
-use Rattle.server_rounds.specs.declared.opened.OpenedPair.{OpenedPair}
 use Rattle.table_schema.specs.declared.rows.Row.{Row}
-use Rattle.waldo_run.specs.Asking.{Opens, Begins}
-use Rattle.waldo_run.specs.Replies.{Reply, checked_answer, plain_answer, reply_to, reads_input, rows_in, RefusesInput, Suits, after_failed_put}
-use Rattle.waldo_run.specs.declared.words.Ask.{Ask}
-use Rattle.waldo_run.specs.declared.words.Command.TheVariants as commands
-use Rattle.wire_line.specs.declared.message.Message.{Message}
-use Rattle.waldo_run.specs.declared.words.Command.{Command}
-use Rattle.waldo_run.specs.declared.words.WordFault.{WordFault}
+use Rattle.table_schema.specs.declared.widths.Widths.{Widths}
+use Rattle.schedule_play.specs.History.{Done, HasBroken, HasHistory}
+use Rattle.schedule_play.specs.Plain.{ArePlain}
+use Rattle.schedule_play.specs.Stages.{first_stage}
+use Rattle.waldo_words.specs.declared.command.Command.{Command}
+use Rattle.waldo_words.specs.declared.command.Command.TheVariants as commands
+use Rattle.waldo_words.specs.declared.faults.WordFault.{WordFault}
+use Rattle.waldo_run.specs.Replies.{Reply, IsRefused, Suits, after_failed_put, checked_answer, plain_answer, reply_to}
+use Rattle.waldo_run.specs.Tasks.{AreWidthsIn, common_in, reads_input, rows_in, rows_made, task_over}
 
 -- an object over a call: the bytes that it tells and its count of faults, each before and after
 pub record Change : Type 0 where
@@ -27,52 +28,65 @@ pub record Change : Type 0 where
 abbrev pub change : {A : Type 0} → (A → Option (List ℕ)) → (A → ℕ) → A → A → Change
 change told faults before now = record { old = told before; new = told now; before = faults before; now = faults now }
 
--- the messages of a query over the rows of its input, which open this pair; none where they have a fault
-abbrev pub AskedOver : Ask → List Message → OpenedPair → Result (List Row) RowFault → Type 0
-AskedOver ask ms pair (Err fault) = ms ≡ []
-AskedOver ask ms pair (Ok rows) = Opens ask rows ms pair
+-- The steps of a command over its rows, with the messages of each answer and what they opened. What answers over an unaltered wire
+-- opened is plain.
+pub record AskedOver (unaltered : ℕ → Type 0) (command : Command) (history : List Done) (rows : List Row) : Type 0 where
+  pub widths : Widths
+  pub of : AreWidthsIn command widths
+  pub history : HasHistory widths (task_over command rows) history
+  pub plain : ArePlain unaltered (task_over command rows).setting (task_over command rows).style first_stage history
 
-abbrev pub AskedOf : Command → List Message → OpenedPair → List ℕ → Type 0
-AskedOf (commands.Ask ask) ms pair bytes = AskedOver ask ms pair (rows_in ask.schema bytes)
+-- the same where the rows may have a fault: then no step was done
+abbrev pub AskedIn : (ℕ → Type 0) → Command → List Done → Result (List Row) RowFault → Type 0
+AskedIn unaltered command history (Err fault) = history ≡ []
+AskedIn unaltered command history (Ok rows) = AskedOver unaltered command history rows
 
--- the messages of the words, over what reading gave
-abbrev pub Asked : Result Command WordFault → List Message → OpenedPair → Reading → Type 0
-Asked (Err fault) ms pair reading = ms ≡ []
-Asked (Ok command) ms pair Untouched = ms ≡ []
-Asked (Ok command) ms pair Broken = ms ≡ []
-Asked (Ok command) ms pair Long = ms ≡ []
-Asked (Ok command) ms pair (Whole bytes) = AskedOf command ms pair bytes
+-- the steps of the words, over what reading gave
+abbrev pub Asked : (ℕ → Type 0) → Result Command WordFault → List Done → Reading → Type 0
+Asked unaltered (Err fault) history reading = history ≡ []
+Asked unaltered (Ok command) history Untouched = AskedIn unaltered command history (Ok (rows_made command))
+Asked unaltered (Ok command) history Broken = history ≡ []
+Asked unaltered (Ok command) history Long = history ≡ []
+Asked unaltered (Ok command) history (Whole bytes) = AskedIn unaltered command history (rows_in (common_in command) bytes)
 
--- The source was met in this way, the wire carried the messages that belong to it, and the reply is the one to what they opened.
-pub record Replies (command : Result Command WordFault) (source : Change) (carried : List Message → Type 0) (reply : Reply) : Type 0 where
+-- The source was met in this way, the wires carried the messages of the steps that belong to it, and the reply is the one to what they opened.
+pub record Replies (command : Result Command WordFault) (source : Change) (carried : List Done → Type 0) (unaltered : ℕ → Type 0) (reply : Reply) : Type 0 where
   pub reading : Reading
   pub suits : Suits command reading
   pub reads : Reads most_bytes reading source.old source.new source.before source.now
-  pub messages : List Message
-  pub sent : carried messages
-  pub pair : OpenedPair
-  pub asked : Asked command messages pair reading
-  pub is : reply ≡ reply_to (checked_answer pair) command reading
+  pub history : List Done
+  pub sent : carried history
+  pub asked : Asked unaltered command history reading
+  pub is : reply ≡ reply_to (checked_answer history) command reading
+  pub accepted : ((actor : ℕ) → unaltered actor) → reply.status ≢ 7
 
--- the first messages of a query over the rows of its input; none where they have a fault
-abbrev pub BegunOver : Ask → List Message → Result (List Row) RowFault → Type 0
-BegunOver ask ms (Err fault) = ms ≡ []
-BegunOver ask ms (Ok rows) = (ms ≡ []) ⊎ Begins ask rows ms
+-- some first steps of a command over its rows, the last of which may have sent just the first of its messages
+pub record BegunOver (command : Command) (history : List Done) (rows : List Row) : Type 0 where
+  pub widths : Widths
+  pub of : AreWidthsIn command widths
+  pub broken : HasBroken widths (task_over command rows) history
 
-abbrev pub BegunOf : Command → List Message → List ℕ → Type 0
-BegunOf (commands.Ask ask) ms bytes = BegunOver ask ms (rows_in ask.schema bytes)
+abbrev pub BegunIn : Command → List Done → Result (List Row) RowFault → Type 0
+BegunIn command history (Err fault) = history ≡ []
+BegunIn command history (Ok rows) = BegunOver command history rows
 
--- the messages that were carried when memory was lacking
-abbrev pub Begun : Result Command WordFault → List Message → Change → Type 0
-Begun (Err fault) ms source = ms ≡ []
-Begun (Ok command) ms source =
-    (ms ≡ []) ⊎ ((bytes : List ℕ) × Reads most_bytes (Whole bytes) source.old source.new source.before source.now × BegunOf command ms bytes)
+-- the steps that were begun when memory was lacking: none, or first steps over what reading gave
+abbrev pub BegunAt : Command → List Done → Reading → Type 0
+BegunAt command history Untouched = BegunIn command history (Ok (rows_made command))
+BegunAt command history Broken = history ≡ []
+BegunAt command history Long = history ≡ []
+BegunAt command history (Whole bytes) = BegunIn command history (rows_in (common_in command) bytes)
 
--- For want of memory the wire carried the first of the messages that the command has, if any.
-pub record Breaks (command : Result Command WordFault) (source : Change) (carried : List Message → Type 0) : Type 0 where
-  pub messages : List Message
-  pub sent : carried messages
-  pub begun : Begun command messages source
+abbrev pub Begun : Result Command WordFault → List Done → Change → Type 0
+Begun (Err fault) history source = history ≡ []
+Begun (Ok command) history source =
+    (history ≡ []) ⊎ ((reading : Reading) × Suits (Ok command) reading × Reads most_bytes reading source.old source.new source.before source.now × BegunAt command history reading)
+
+-- For want of memory the wires carried the first of the messages that the command has, if any.
+pub record Breaks (command : Result Command WordFault) (source : Change) (carried : List Done → Type 0) : Type 0 where
+  pub history : List Done
+  pub sent : carried history
+  pub begun : Begun command history source
 
 -- Whole text and the reply's status, or a failed put.
 abbrev pub Puts : Reply → Change → ℕ → Type 0
@@ -81,9 +95,9 @@ Puts reply sink status =
     ⊎ ((status ≡ after_failed_put reply.status) × AppendsFront sink.old sink.new (text_of reply.report) × Rose sink.before sink.now)
 
 -- The whole run, but for want of memory: some reply to what reading gave, put into the sink.
-pub record Runs (command : Result Command WordFault) (source : Change) (carried : List Message → Type 0) (sink : Change) (status : ℕ) : Type 0 where
+pub record Runs (command : Result Command WordFault) (source : Change) (carried : List Done → Type 0) (unaltered : ℕ → Type 0) (sink : Change) (status : ℕ) : Type 0 where
   pub reply : Reply
-  pub replies : Replies command source carried reply
+  pub replies : Replies command source carried unaltered reply
   pub puts : Puts reply sink status
 
 -- nothing was put
@@ -103,7 +117,25 @@ reading_by (Ok command) bytes = if reads_input command then reading_of bytes els
 abbrev pub plain_reply : Result Command WordFault → List ℕ → Reply
 plain_reply command bytes = reply_to plain_answer command (reading_by command bytes)
 
--- an input that the command refuses: too long, or not of its form
+-- an input that the command refuses: too long, or without rows
+abbrev pub RefusesInput : Command → List ℕ → Type 0
+RefusesInput command bytes = IsRefused (rows_in (common_in command) bytes)
+
 abbrev pub Refuses : Result Command WordFault → List ℕ → Type 0
 Refuses (Err fault) bytes = ⊥
 Refuses (Ok command) bytes = (most_bytes < length bytes) ⊎ RefusesInput command bytes
+
+-- words that read nothing of the source: refused ones, and a command that makes its rows
+abbrev pub ReadsNothing : Result Command WordFault → Type 0
+ReadsNothing (Err fault) = ⊤
+ReadsNothing (Ok command) = reads_input command ≡ false
+
+-- a command with a schedule, of which a step may have no case
+abbrev pub HasSchedule : Result Command WordFault → Type 0
+HasSchedule (Err fault) = ⊥
+HasSchedule (Ok (commands.Ask common)) = ⊥
+HasSchedule (Ok (commands.Replay common schedule)) = ⊤
+HasSchedule (Ok (commands.Race common writers askers rounds)) = ⊥
+HasSchedule (Ok (commands.Make common number count)) = ⊥
+HasSchedule (Ok (commands.Trace common)) = ⊥
+HasSchedule (Ok (commands.Tamper common shifts)) = ⊥

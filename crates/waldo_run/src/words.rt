@@ -1,120 +1,44 @@
-//! Command words.
-ghost use Rattle.std.specs.Prelude.{◌≡◌, Ok, Err, IfOk, map, string_bytes, codes};
+//! Command words, as far as their commands are built.
+ghost use Rattle.std.specs.Prelude.{◌≡◌, Ok, IfOk, map, string_bytes};
 ghost use Rattle.text_reading.specs.Reading.{Gives};
-ghost use Rattle.waldo_run.specs.Words.{command_of, after_command, with_schema, after_option, after_query, Suited};
-ghost use Rattle.waldo_run.specs.declared.words.Command.TheVariants as commands;
-ghost use Rattle.waldo_run.specs.declared.words.WordFault.TheVariants.{Memory, Missing};
+ghost use Rattle.waldo_words.specs.Legal.{IsLegal};
+ghost use Rattle.waldo_words.specs.declared.faults.WordFault.TheVariants.{Memory};
+ghost use Rattle.waldo_run.specs.Words.{IsBuilt, command_in, is_unbuilt, only_built};
 
-use query_plan::{Query, read_query};
-use report_lines::NameText;
 use std::alloc::Global;
-use table_schema::{Schema, SchemaFault, read_schema};
+use waldo_words::{Command, WordFault, read_words};
 
-/// A query over a table with these columns.
-#[derive(Drop)]
-pub struct Ask {
-    pub schema: Schema,
-    pub query: Query,
+// Whether the word names a command that is not built yet.
+fn is_unbuilt(word: &str) -> bool
+    ensures { result ≡ is_unbuilt word.now }
+{
+    word == "race" || word == "trace" || word == "tamper"
 }
 
-/// What the program is asked to do.
-#[derive(Drop)]
-pub enum Command {
-    Ask(Ask),
+// A command that is built.
+fn only_built(command: Command) -> Result<Command, WordFault>
+    requires { IsLegal command }
+    ensures exact { Gives Memory (λ c. c) result (only_built (Ok command)) }
+    ensures legal { IfOk result IsLegal }
+    ensures built { IfOk result IsBuilt }
+{
+    match command {
+        Command::Ask(_) | Command::Replay { .. } | Command::Make { .. } => Ok(command),
+        Command::Race { .. } | Command::Trace(_) | Command::Tamper { .. } => Err(WordFault::Word { index: 0 }),
+    }
 }
 
-/// Why the words are refused: the first word, from 0, that is bad, or the name of what is missing behind good ones; or want
-/// of memory.
-#[derive(Drop)]
-pub enum WordFault {
-    Word { index: u64 },
-    Missing { name: NameText },
-    Memory,
-}
-
-impl WordFault {
-    fn missing(text: &'static str) -> WordFault
-        ensures { result ≡ Missing text.now }
-    {
-        WordFault::Missing {
-            name: NameText::new(text),
+/// The command that the words say, or why they are refused. A command that is not built yet is an unknown one.
+#[tactic(auto, unfolding(crate::specs::Words::command_in))]
+pub(crate) fn read_command(alloc: Global, words: &[String]) -> Result<Command, WordFault>
+    ensures exact { Gives Memory (λ c. c) result (command_in (map string_bytes words.now)) }
+    ensures legal { IfOk result IsLegal }
+    ensures built { IfOk result IsBuilt }
+{
+    if let [word, ..] = words {
+        if is_unbuilt(word.as_str()) {
+            return Err(WordFault::Word { index: 0 });
         }
     }
-}
-
-/// The command that the words say: `ask`, a schema's text, `--query` and a query's text, or the first fault from the left.
-#[tactic(auto, unfolding(crate::specs::Words::command_of))]
-pub fn read_words(alloc: Global, words: &[String]) -> Result<Command, WordFault>
-    ensures exact { Gives Memory (λ command. command) result (command_of (map string_bytes words.now)) }
-    ensures suited { IfOk result Suited }
-{
-    match words {
-        [] => Err(WordFault::missing("command")),
-        [command, rest @ ..] => {
-            if command.as_str() == "ask" {
-                ask_words(alloc, rest)
-            } else {
-                Err(WordFault::Word { index: 0 })
-            }
-        }
-    }
-}
-
-// The words behind `ask`.
-fn ask_words(alloc: Global, words: &[String]) -> Result<Command, WordFault>
-    ensures exact { Gives Memory (λ command. command) result (after_command (map string_bytes words.now)) }
-    ensures suited { IfOk result Suited }
-{
-    match words {
-        [] => Err(WordFault::missing("schema")),
-        [word, rest @ ..] => match read_schema(alloc, word.as_str()) {
-            Ok(schema) => options(schema, rest),
-            Err(SchemaFault::Memory) => Err(WordFault::Memory),
-            Err(_) => Err(WordFault::Word { index: 1 }),
-        },
-    }
-}
-
-// The words behind the schema.
-fn options(schema: Schema, words: &[String]) -> Result<Command, WordFault>
-    ensures exact { Gives Memory (λ command. command) result (with_schema (map string_bytes words.now) (Ok schema)) }
-    ensures suited { IfOk result Suited }
-{
-    match words {
-        [] => Err(WordFault::missing("--query")),
-        [word, rest @ ..] => {
-            if word.as_str() == "--query" {
-                option_value(schema, rest)
-            } else {
-                Err(WordFault::Word { index: 2 })
-            }
-        }
-    }
-}
-
-// The words behind `--query`.
-fn option_value(schema: Schema, words: &[String]) -> Result<Command, WordFault>
-    ensures exact { Gives Memory (λ command. command) result (after_option schema (map string_bytes words.now)) }
-    ensures suited { IfOk result Suited }
-{
-    match words {
-        [] => Err(WordFault::Word { index: 2 }),
-        [word, rest @ ..] => match read_query(&schema, word.as_str()) {
-            Ok(query) => last_words(Ask { schema, query }, rest),
-            Err(_) => Err(WordFault::Word { index: 3 }),
-        },
-    }
-}
-
-// The words behind the query, of which there must be none.
-fn last_words(ask: Ask, words: &[String]) -> Result<Command, WordFault>
-    requires { Suited (commands.Ask ask) }
-    ensures exact { Gives Memory (λ command. command) result (after_query ask (map string_bytes words.now)) }
-    ensures suited { IfOk result Suited }
-{
-    if words.is_empty() {
-        Ok(Command::Ask(ask))
-    } else {
-        Err(WordFault::Word { index: 4 })
-    }
+    only_built(read_words(alloc, words)?)
 }
