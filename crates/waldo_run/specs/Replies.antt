@@ -11,6 +11,9 @@ use Rattle.schedule_play.specs.History.{Done, opened_in}
 use Rattle.schedule_play.specs.Plain.{plain_lines, plainly}
 use Rattle.schedule_play.specs.Stages.{Stage, played}
 use Rattle.schedule_play.specs.Tasks.{Setting, Task}
+use Rattle.schedule_play.specs.declared.play.PlayFault.{PlayFault}
+use Rattle.schedule_play.specs.declared.play.PlayFault.TheVariants.{NotAllowed, Memory}
+use Rattle.schedule_play.specs.declared.play.Played.{Played}
 use Rattle.schedule_play.specs.declared.style.Style.{Style}
 use Rattle.schedule_play.specs.declared.style.Style.TheVariants.{Queries, Rounds}
 use Rattle.waldo_words.specs.declared.command.Command.{Command}
@@ -47,6 +50,12 @@ row_refusal row.Memory = no_reply
 abbrev pub ended : Result Stage ℕ → Reply
 ended (Ok stage) = record { status = if stage.altered then 7 else 0; report = stage.lines }
 ended (Err t) = single 2 (lines.BadStep t)
+
+-- the reply to what steps came to, as the code has it; for want of memory there is none
+abbrev pub IsReplyOf : Result Played PlayFault → Reply → Type 0
+IsReplyOf (Ok p) reply = reply ≡ record { status = if p.altered then 7 else 0; report = p.report }
+IsReplyOf (Err (NotAllowed t)) reply = reply ≡ single 2 (lines.BadStep t)
+IsReplyOf (Err Memory) reply = ⊥
 
 -- how a task is answered: by what its answers opened, or plainly
 abbrev pub Answering : Type 0

@@ -1,11 +1,12 @@
 -- What a run does to its source, its wires and its sink, and with what status it ends.
-use Rattle.std.specs.Prelude.{◌≡◌, ◌≢◌, ◌<◌, ◌⊎◌, ⊤, false, ℕ, nat_le, if◌then◌else◌, Option, Result, Ok, Err, List, [], length}
+use Rattle.std.specs.Prelude.{◌≡◌, ◌≢◌, ◌<◌, ◌⊎◌, ⊤, false, ℕ, nat_le, if◌then◌else◌, Option, Result, Ok, Err, OnErr, IfOk, List, [], length}
 use Rattle.std.specs.Io.KnownBytes.{Keeps, Appends}
 use Rattle.fault_count.specs.Causes.{Rose}
 use Rattle.report_lines.specs.Line.{text_of}
 use Rattle.report_lines.specs.Sink.{AppendsFront}
 use Rattle.row_source.specs.Input.{Reading, Reads, most_bytes}
 use Rattle.row_source.specs.Input.Reading.{Untouched, Whole, Long, Broken}
+use Rattle.ring128.specs.declared.memory.Memory.{Memory}
 use Rattle.row_source.specs.declared.faults.RowFault.{RowFault}
 use Rattle.table_schema.specs.declared.rows.Row.{Row}
 use Rattle.table_schema.specs.declared.widths.Widths.{Widths}
@@ -15,7 +16,7 @@ use Rattle.schedule_play.specs.Stages.{first_stage}
 use Rattle.waldo_words.specs.declared.command.Command.{Command}
 use Rattle.waldo_words.specs.declared.command.Command.TheVariants as commands
 use Rattle.waldo_words.specs.declared.faults.WordFault.{WordFault}
-use Rattle.waldo_run.specs.Replies.{Reply, IsRefused, Suits, after_failed_put, checked_answer, plain_answer, reply_to}
+use Rattle.waldo_run.specs.Replies.{Reply, IsRefused, Suits, after_failed_put, checked_answer, plain_answer, reply_over, reply_to}
 use Rattle.waldo_run.specs.Tasks.{AreWidthsIn, common_in, reads_input, rows_in, rows_made, task_over}
 
 -- an object over a call: the bytes that it tells and its count of faults, each before and after
@@ -87,6 +88,16 @@ pub record Breaks (command : Result Command WordFault) (source : Change) (carrie
   pub history : List Done
   pub sent : carried history
   pub begun : Begun command history source
+
+-- What a command comes to over rows, which may have a fault: the messages of its steps over the wires, and its reply to what they opened; or for
+-- want of memory the messages of first steps.
+pub record Answers (command : Command) (rows : Result (List Row) RowFault) (carried : List Done → Type 0) (unaltered : ℕ → Type 0) (result : Result Reply Memory) : Type 0 where
+  pub history : List Done
+  pub sent : carried history
+  pub begun : OnErr result (BegunIn command history rows)
+  pub asked : IfOk result (λ reply. AskedIn unaltered command history rows)
+  pub is : IfOk result (λ reply. reply ≡ reply_over (checked_answer history) command rows)
+  pub accepted : IfOk result (λ reply. ((actor : ℕ) → unaltered actor) → reply.status ≢ 7)
 
 -- Whole text and the reply's status, or a failed put.
 abbrev pub Puts : Reply → Change → ℕ → Type 0

@@ -1,30 +1,42 @@
 //! A run of the program, from bytes in to bytes out.
-ghost use Rattle.std.specs.Prelude.{◌≡◌, ◌≢◌, ◌<◌, ◌≤◌, List, IsTrue, [], ◌∷◌, map, string_bytes, Ok, IfOk, OnErr, IfSome, IsErr, length};
+ghost use Rattle.std.specs.Prelude.{◌≡◌, ◌≢◌, ◌≤◌, ◌⊎◌, ℕ, List, true, All, map, string_bytes, Ok, IfOk, OnErr, IfSome, IsErr, length};
 ghost use Rattle.fault_count.specs.Causes.{Rose};
-ghost use Rattle.query_plan.specs.Query.{AreWidthsOf, Suits};
 ghost use Rattle.report_lines.specs.Line.{text_of};
 ghost use Rattle.row_source.specs.declared.faults.RowFault.TheVariants as row;
-ghost use Rattle.server_rounds.specs.declared.opened.OpenedPair.{OpenedPair};
-ghost use Rattle.table_schema.specs.Widths.{Holds};
-ghost use Rattle.waldo_run.specs.Asking.{IsOver};
-ghost use Rattle.waldo_run.specs.Words.{command_of, Suited};
-ghost use Rattle.waldo_run.specs.Replies.{Reply, answered, checked_answer, reply_for, rows_in, row_refusal, single};
-ghost use Rattle.waldo_run.specs.Run.{change, AskedOver, BegunOver, Breaks, Replies, Puts, Runs, IsUnchanged, plain_reply, Refuses};
-ghost use Rattle.waldo_run.specs.Wires.{FirstRose, FirstWent};
-ghost use Rattle.waldo_run.specs.declared.words.Command.TheVariants as commands;
-ghost use Rattle.wire_line.specs.Messages.{Went};
-ghost use Rattle.wire_line.specs.declared.message.Message.{Message};
+ghost use Rattle.schedule_play.specs.History.{Done};
+ghost use Rattle.schedule_play.specs.Wires.{RoseAt, SomeRose, WiresWent};
+ghost use Rattle.waldo_run.specs.Replies.{row_refusal};
+ghost use Rattle.waldo_run.specs.Run.{Answers, Breaks, HasSchedule, IsUnchanged, Puts, ReadsNothing, Refuses, Replies, Runs, change, plain_reply};
+ghost use Rattle.waldo_run.specs.Tasks.{AreWidthsIn, common_in, reads_input, rows_in, rows_made};
+ghost use Rattle.waldo_run.specs.Words.{IsBuilt, command_in};
+ghost use Rattle.waldo_words.specs.Legal.{IsLegal};
+ghost use Rattle.waldo_words.specs.declared.command.Command.TheVariants as commands;
 
-use crate::asking::ask_rows;
+use crate::made::made_rows;
 use crate::reply::{Reply, single_line};
-use crate::words::{Ask, Command, WordFault, read_words};
-use report_lines::{Line, Sink, Who, text};
+use crate::task::answer_rows;
+use crate::words::read_command;
+use report_lines::{Line, Sink, text};
 use ring128::Memory;
 use row_source::{ReadFault, RowFault, Source, read_all, read_rows};
 use std::alloc::Global;
 use std::thread::Threads;
-use weighted_check::Altered;
+use waldo_words::{Command, Common, WordFault};
 use wire_line::Wire;
+
+// What the options have in common.
+fn common_of(command: &Command) -> &Common
+    ensures { result.now ≡ common_in command.now }
+{
+    match command {
+        Command::Ask(common)
+        | Command::Replay { common, .. }
+        | Command::Race { common, .. }
+        | Command::Make { common, .. }
+        | Command::Trace(common)
+        | Command::Tamper { common, .. } => common,
+    }
+}
 
 // The reply to an input that gives no rows.
 fn refused_rows(alloc: Global, fault: RowFault) -> Result<Reply, Memory>
@@ -42,83 +54,91 @@ fn refused_rows(alloc: Global, fault: RowFault) -> Result<Reply, Memory>
     }
 }
 
-// The reply of `ask` to so many rows, by the answer that the check gave.
-fn reply_to_answer(
-    alloc: Global,
-    ask: &Ask,
-    rows: u64,
-    answer: Result<u64, Altered>,
-) -> Result<Reply, Memory>
-    ensures { IfOk result (λ reply. reply ≡ reply_for ask.now rows answer) }
-{
-    let who = Who::Single(0);
-    match answer {
-        Ok(total) => {
-            let aggregate = ask.query.aggregate;
-            single_line(
-                alloc,
-                0,
-                Line::Answer {
-                    who,
-                    rows,
-                    aggregate,
-                    total,
-                },
-            )
-        }
-        Err(Altered { total, weighted }) => single_line(
-            alloc,
-            7,
-            Line::Altered {
-                who,
-                rows,
-                total,
-                weighted,
-            },
-        ),
-    }
-}
-
-// The reply of `ask` to all bytes of an input.
+// The reply of a command to all bytes of an input.
 fn answer_bytes<R: Threads + Sync, W: Wire>(
     rt: &R,
     alloc: Global,
-    ask: &Ask,
+    command: &Command,
     bytes: &[u8],
-    wire: &mut W,
+    wires: &mut Vec<W>,
 ) -> Result<Reply, Memory>
-    requires { Suited (commands.Ask ask.now) }
-    ensures { (ms : List Message) × Went W.told W.alterations W.passes wire.old ms wire.new
-        × OnErr result (BegunOver ask.now ms (rows_in ask.now.schema bytes.now))
-        × IfOk result (λ reply. (pair : OpenedPair) × AskedOver ask.now ms pair (rows_in ask.now.schema bytes.now)
-        × (reply ≡ answered (checked_answer pair) ask.now (rows_in ask.now.schema bytes.now))) }
+    requires legal { IsLegal command.now }
+    requires built { IsBuilt command.now }
+    requires wires { length wires.old.items ≡ 16 }
+    ensures wires { length wires.new.items ≡ 16 }
+    ensures answers { Answers command.now (rows_in (common_in command.now) bytes.now) (λ history. WiresWent W.told W.alterations W.passes history 0 wires.old.items wires.new.items) (λ actor. ¬ RoseAt W.alterations actor wires.old.items wires.new.items) result }
 {
-    let widths = ask.schema.widths();
-    let rows = match read_rows(alloc, &ask.schema, widths.largest(), bytes) {
-        Ok(rows) => rows,
-        Err(fault) => return refused_rows(alloc, fault),
-    };
-    let answer = ask_rows(rt, alloc, ask, &widths, &rows, wire)?;
-    reply_to_answer(alloc, ask, rows.len() as u64, answer)
+    let common = common_of(command);
+    let widths = common.schema.widths();
+    match read_rows(alloc, &common.schema, common.capacity, bytes) {
+        Ok(rows) => answer_rows(rt, alloc, command, &widths, &rows, wires),
+        Err(fault) => refused_rows(alloc, fault),
+    }
 }
 
-// The reply of `ask`.
-fn answer<R: Threads + Sync, S: Source, W: Wire>(
+// The reply of a command that reads its rows.
+fn answer_input<R: Threads + Sync, S: Source, W: Wire>(
     rt: &R,
     alloc: Global,
-    ask: &Ask,
+    command: &Command,
     source: &mut S,
-    wire: &mut W,
+    wires: &mut Vec<W>,
 ) -> Result<Reply, Memory>
-    requires { Suited (commands.Ask ask.now) }
-    ensures reply { IfOk result (λ reply. Replies (Ok (commands.Ask ask.now)) (change S.left S.fault_count source.old source.new) (λ ms. Went W.told W.alterations W.passes wire.old ms wire.new) reply) }
-    ensures memory { OnErr result (Breaks (Ok (commands.Ask ask.now)) (change S.left S.fault_count source.old source.new) (λ ms. Went W.told W.alterations W.passes wire.old ms wire.new)) }
+    requires legal { IsLegal command.now }
+    requires built { IsBuilt command.now }
+    requires reads { reads_input command.now ≡ true }
+    requires wires { length wires.old.items ≡ 16 }
+    ensures wires { length wires.new.items ≡ 16 }
+    ensures reply { IfOk result (λ reply. Replies (Ok command.now) (change S.left S.fault_count source.old source.new) (λ history. WiresWent W.told W.alterations W.passes history 0 wires.old.items wires.new.items) (λ actor. ¬ RoseAt W.alterations actor wires.old.items wires.new.items) reply) }
+    ensures memory { OnErr result (Breaks (Ok command.now) (change S.left S.fault_count source.old source.new) (λ history. WiresWent W.told W.alterations W.passes history 0 wires.old.items wires.new.items)) }
 {
     match read_all(alloc, source) {
-        Ok(bytes) => answer_bytes(rt, alloc, ask, &bytes, wire),
+        Ok(bytes) => answer_bytes(rt, alloc, command, &bytes, wires),
         Err(ReadFault::Failed) => single_line(alloc, 3, Line::ReadFault),
         Err(ReadFault::TooLong) => single_line(alloc, 5, Line::TooLong),
         Err(ReadFault::Memory) => Err(Memory),
+    }
+}
+
+// The reply of a command that makes so many rows by a number.
+fn answer_made<R: Threads + Sync, W: Wire>(
+    rt: &R,
+    alloc: Global,
+    command: &Command,
+    number: u32,
+    count: u32,
+    wires: &mut Vec<W>,
+) -> Result<Reply, Memory>
+    requires legal { IsLegal command.now }
+    requires made { command.now ≡ commands.Make (common_in command.now) number count }
+    requires wires { length wires.old.items ≡ 16 }
+    ensures wires { length wires.new.items ≡ 16 }
+    ensures answers { Answers command.now (Ok (rows_made command.now)) (λ history. WiresWent W.told W.alterations W.passes history 0 wires.old.items wires.new.items) (λ actor. ¬ RoseAt W.alterations actor wires.old.items wires.new.items) result }
+{
+    let widths = common_of(command).schema.widths();
+    let rows = made_rows(alloc, &widths, number, count)?;
+    answer_rows(rt, alloc, command, &widths, &rows, wires)
+}
+
+// The reply of a command.
+fn answer<R: Threads + Sync, S: Source, W: Wire>(
+    rt: &R,
+    alloc: Global,
+    command: &Command,
+    source: &mut S,
+    wires: &mut Vec<W>,
+) -> Result<Reply, Memory>
+    requires legal { IsLegal command.now }
+    requires built { IsBuilt command.now }
+    requires wires { length wires.old.items ≡ 16 }
+    ensures wires { length wires.new.items ≡ 16 }
+    ensures reply { IfOk result (λ reply. Replies (Ok command.now) (change S.left S.fault_count source.old source.new) (λ history. WiresWent W.told W.alterations W.passes history 0 wires.old.items wires.new.items) (λ actor. ¬ RoseAt W.alterations actor wires.old.items wires.new.items) reply) }
+    ensures memory { OnErr result (Breaks (Ok command.now) (change S.left S.fault_count source.old source.new) (λ history. WiresWent W.told W.alterations W.passes history 0 wires.old.items wires.new.items)) }
+    ensures unread { ReadsNothing (Ok command.now) → IsUnchanged (change S.left S.fault_count source.old source.new) }
+{
+    match command {
+        Command::Make { number, rows, .. } => answer_made(rt, alloc, command, *number, *rows, wires),
+        _ => answer_input(rt, alloc, command, source, wires),
     }
 }
 
@@ -128,20 +148,23 @@ fn reply_in<R: Threads + Sync, S: Source, W: Wire>(
     alloc: Global,
     words: &[String],
     source: &mut S,
-    wire: &mut W,
+    wires: &mut Vec<W>,
 ) -> Result<Reply, Memory>
-    ensures reply { IfOk result (λ reply. Replies (command_of (map string_bytes words.now)) (change S.left S.fault_count source.old source.new) (λ ms. Went W.told W.alterations W.passes wire.old ms wire.new) reply) }
-    ensures memory { OnErr result (Breaks (command_of (map string_bytes words.now)) (change S.left S.fault_count source.old source.new) (λ ms. Went W.told W.alterations W.passes wire.old ms wire.new)) }
+    requires wires { length wires.old.items ≡ 16 }
+    ensures wires { length wires.new.items ≡ 16 }
+    ensures reply { IfOk result (λ reply. Replies (command_in (map string_bytes words.now)) (change S.left S.fault_count source.old source.new) (λ history. WiresWent W.told W.alterations W.passes history 0 wires.old.items wires.new.items) (λ actor. ¬ RoseAt W.alterations actor wires.old.items wires.new.items) reply) }
+    ensures memory { OnErr result (Breaks (command_in (map string_bytes words.now)) (change S.left S.fault_count source.old source.new) (λ history. WiresWent W.told W.alterations W.passes history 0 wires.old.items wires.new.items)) }
+    ensures unread { ReadsNothing (command_in (map string_bytes words.now)) → IsUnchanged (change S.left S.fault_count source.old source.new) }
 {
-    match read_words(alloc, words) {
-        Ok(Command::Ask(ask)) => answer(rt, alloc, &ask, source, wire),
+    match read_command(alloc, words) {
+        Ok(command) => answer(rt, alloc, &command, source, wires),
         Err(WordFault::Word { index }) => single_line(alloc, 2, Line::BadWord { index }),
         Err(WordFault::Missing { name }) => single_line(alloc, 2, Line::Missing { name }),
         Err(WordFault::Memory) => Err(Memory),
     }
 }
 
-/// Puts the text of a reply, and says with what status the run ends.
+// Puts the text of a reply, and says with what status the run ends.
 fn finish<K: Sink>(alloc: Global, reply: &Reply, sink: &mut K) -> u8
     ensures memory { result ≡ 6 → IsUnchanged (change K.taken K.fault_count sink.old sink.new) }
     ensures puts { result ≢ 6 → Puts reply.now (change K.taken K.fault_count sink.old sink.new) result }
@@ -155,26 +178,8 @@ fn finish<K: Sink>(alloc: Global, reply: &Reply, sink: &mut K) -> u8
     }
 }
 
-fn run_words<R: Threads + Sync, S: Source, K: Sink, W: Wire>(
-    rt: &R,
-    alloc: Global,
-    words: &[String],
-    source: &mut S,
-    sink: &mut K,
-    wire: &mut W,
-) -> u8
-    ensures memory { result ≡ 6 → IsUnchanged (change K.taken K.fault_count sink.old sink.new) }
-    ensures broken { result ≡ 6 → Breaks (command_of (map string_bytes words.now)) (change S.left S.fault_count source.old source.new) (λ ms. Went W.told W.alterations W.passes wire.old ms wire.new) }
-    ensures run { result ≢ 6 → Runs (command_of (map string_bytes words.now)) (change S.left S.fault_count source.old source.new) (λ ms. Went W.told W.alterations W.passes wire.old ms wire.new) (change K.taken K.fault_count sink.old sink.new) result }
-{
-    match reply_in(rt, alloc, words, source, wire) {
-        Err(_) => 6,
-        Ok(reply) => finish(alloc, &reply, sink),
-    }
-}
-
-/// Runs the program on these words, this source, this sink and 16 wires, of which it uses the first one. The query's
-/// messages go through it; at the return the list has the same 16 wires, each in its place.
+/// Runs the program on these words, this source, this sink and 16 wires. The messages of an answer go over its actor's wire: those of
+/// `ask` and `make` over the first one. At the return the list has the same 16 wires, each in its place.
 pub fn run_still<R: Threads + Sync, S: Source, K: Sink, W: Wire>(
     rt: &R,
     alloc: Global,
@@ -184,24 +189,29 @@ pub fn run_still<R: Threads + Sync, S: Source, K: Sink, W: Wire>(
     wires: &mut Vec<W>,
 ) -> u8
     requires wires { length wires.old.items ≡ 16 }
-    // For want of memory nothing is put, and the first messages of the query may have been carried.
+    ensures wires { length wires.new.items ≡ 16 }
+    // For want of memory nothing is put, and the first messages of the command may have been carried.
     ensures memory { result ≡ 6 → IsUnchanged (change K.taken K.fault_count sink.old sink.new) }
-    ensures broken { result ≡ 6 → Breaks (command_of (map string_bytes words.now)) (change S.left S.fault_count source.old source.new) (λ ms. FirstWent W.told W.alterations W.passes wires.old.items ms wires.new.items) }
-    // Else the source was met in one of four ways, the first wire carried the messages of the query over what was read, and the
-    // reply to the words, to what was read and to what the messages opened was put.
-    ensures run { result ≢ 6 → Runs (command_of (map string_bytes words.now)) (change S.left S.fault_count source.old source.new) (λ ms. FirstWent W.told W.alterations W.passes wires.old.items ms wires.new.items) (change K.taken K.fault_count sink.old sink.new) result }
+    ensures broken { result ≡ 6 → Breaks (command_in (map string_bytes words.now)) (change S.left S.fault_count source.old source.new) (λ history. WiresWent W.told W.alterations W.passes history 0 wires.old.items wires.new.items) }
+    // Else the source was met in one of four ways, each answer's messages went over its actor's wire, and the reply to the words, to what
+    // was read and to what the answers opened was put: the replies of the core to the command's steps, in order.
+    ensures run { result ≢ 6 → Runs (command_in (map string_bytes words.now)) (change S.left S.fault_count source.old source.new) (λ history. WiresWent W.told W.alterations W.passes history 0 wires.old.items wires.new.items) (λ actor. ¬ RoseAt W.alterations actor wires.old.items wires.new.items) (change K.taken K.fault_count sink.old sink.new) result }
     // Where the source tells its bytes, no read failed and nothing was altered, the reply is the plain one, a function of the
     // words and of these bytes.
-    ensures plain { result ≢ 6 → ¬ Rose (S.fault_count source.old) (S.fault_count source.new) → ¬ FirstRose W.alterations wires.old.items wires.new.items → IfSome (S.left source.old) (λ bytes.
-        Puts (plain_reply (command_of (map string_bytes words.now)) bytes) (change K.taken K.fault_count sink.old sink.new) result) }
-    // A refused word, and nothing was read.
-    ensures refused { result ≡ 2 → IsErr (command_of (map string_bytes words.now)) }
-    ensures unread { result ≢ 6 → IsErr (command_of (map string_bytes words.now)) → IsUnchanged (change S.left S.fault_count source.old source.new) }
+    ensures plain { result ≢ 6 → ¬ Rose (S.fault_count source.old) (S.fault_count source.new) → ¬ SomeRose W.alterations wires.old.items wires.new.items → IfSome (S.left source.old) (λ bytes.
+        Puts (plain_reply (command_in (map string_bytes words.now)) bytes) (change K.taken K.fault_count sink.old sink.new) result) }
+    // A refused word, and nothing was read; or a step of a schedule without a case.
+    ensures refused { result ≡ 2 → IsErr (command_in (map string_bytes words.now)) ⊎ HasSchedule (command_in (map string_bytes words.now)) }
+    ensures unread { ReadsNothing (command_in (map string_bytes words.now)) → IsUnchanged (change S.left S.fault_count source.old source.new) }
     ensures read_fault { result ≡ 3 → Rose (S.fault_count source.old) (S.fault_count source.new) }
     ensures write_fault { result ≡ 4 → Rose (K.fault_count sink.old) (K.fault_count sink.new) }
-    ensures input { result ≡ 5 → IfSome (S.left source.old) (Refuses (command_of (map string_bytes words.now))) }
-    ensures altered { result ≡ 7 → FirstRose W.alterations wires.old.items wires.new.items }
+    ensures input { result ≡ 5 → IfSome (S.left source.old) (Refuses (command_in (map string_bytes words.now))) }
+    ensures altered { result ≡ 7 → SomeRose W.alterations wires.old.items wires.new.items }
 {
-    query_plan::laws::keys_add_up();
-    run_words(rt, alloc, words, source, sink, &mut wires[0])
+    schedule_play::laws::asked_plainly();
+    schedule_play::laws::asked_in_order();
+    match reply_in(rt, alloc, words, source, wires) {
+        Err(_) => 6,
+        Ok(reply) => finish(alloc, &reply, sink),
+    }
 }

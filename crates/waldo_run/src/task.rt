@@ -1,12 +1,12 @@
 //! What a command does once its rows are known.
-ghost use Rattle.std.specs.Prelude.{◌≡◌, ◌≤◌, All, IfOk, OnErr, Ok, length, List};
-ghost use Rattle.query_plan.specs.Query.{AreWidthsOf};
+ghost use Rattle.std.specs.Prelude.{◌≡◌, ◌≢◌, ◌≤◌, All, IfOk, OnErr, Ok, length, List, ℕ};
 ghost use Rattle.schedule_play.specs.History.{Done};
+ghost use Rattle.schedule_play.specs.Plays.{seen};
 ghost use Rattle.schedule_play.specs.Wires.{RoseAt, WiresWent};
 ghost use Rattle.table_schema.specs.Widths.{Holds};
-ghost use Rattle.waldo_run.specs.Replies.{checked_answer};
+ghost use Rattle.waldo_run.specs.Replies.{IsReplyOf, checked_answer};
 ghost use Rattle.waldo_run.specs.Run.{AskedOver, BegunOver};
-ghost use Rattle.waldo_run.specs.Tasks.{AreWidthsIn, common_in, task_over};
+ghost use Rattle.waldo_run.specs.Tasks.{AreWidthsIn, common_in, setting_of, task_over};
 ghost use Rattle.waldo_run.specs.Words.{IsBuilt};
 ghost use Rattle.waldo_words.specs.Legal.{IsLegal};
 
@@ -20,8 +20,11 @@ use table_schema::{Row, Widths};
 use waldo_words::{Command, Common};
 use wire_line::Wire;
 
-// The rows, the queries and the master seed of a command.
-fn setting_of<'a>(common: &'a Common, widths: &Widths, rows: &'a [Row]) -> Setting<'a>
+// What steps run over.
+fn setting<'a>(common: &'a Common, widths: &Widths, rows: &'a [Row]) -> Setting<'a>
+    ensures seen { seen result ≡ setting_of common.now rows.now }
+    ensures widths { result.widths ≡ widths.now }
+    ensures workers { result.workers ≡ common.now.workers }
 {
     Setting {
         widths: *widths,
@@ -30,4 +33,50 @@ fn setting_of<'a>(common: &'a Common, widths: &Widths, rows: &'a [Row]) -> Setti
         master: common.seed,
         workers: common.workers,
     }
+}
+
+// The reply to what steps came to: their report, or the number of the first one without a case.
+fn reply_of(alloc: Global, played: Result<Played, PlayFault>) -> Result<Reply, Memory>
+    ensures { IfOk result (IsReplyOf played) }
+{
+    match played {
+        Ok(Played { report, altered }) => Ok(Reply::new(if altered { 7 } else { 0 }, report)),
+        Err(PlayFault::NotAllowed { index }) => single_line(alloc, 2, Line::BadStep { index }),
+        Err(PlayFault::Memory) => Err(Memory),
+    }
+}
+
+/// The reply of a command to its rows: that of its steps, whose answers go over the wires. The only error is want of memory; the
+/// first messages of the steps may then have been carried.
+pub(crate) fn answer_rows<R: Threads + Sync, W: Wire>(
+    rt: &R,
+    alloc: Global,
+    command: &Command,
+    widths: &Widths,
+    rows: &[Row],
+    wires: &mut Vec<W>,
+) -> Result<Reply, Memory>
+    requires legal { IsLegal command.now }
+    requires built { IsBuilt command.now }
+    requires widths { AreWidthsIn command.now widths.now }
+    requires held { All (Holds widths.now) rows.now }
+    requires few { let common = common_in command.now in length rows.now ≤ common.capacity }
+    requires wires { length wires.old.items ≡ 16 }
+    ensures wires { length wires.new.items ≡ 16 }
+    ensures asked { (history : List Done) × WiresWent W.told W.alterations W.passes history 0 wires.old.items wires.new.items
+        × OnErr result (BegunOver command.now history rows.now)
+        × IfOk result (λ reply. AskedOver (λ actor. ¬ RoseAt W.alterations actor wires.old.items wires.new.items) command.now history rows.now
+            × (reply ≡ checked_answer history (task_over command.now rows.now))
+            × (((actor : ℕ) → ¬ RoseAt W.alterations actor wires.old.items wires.new.items) → reply.status ≢ 7)) }
+{
+    let played = match command {
+        Command::Ask(common) | Command::Make { common, .. } => {
+            ask(rt, alloc, &setting(common, widths, rows), wires)
+        }
+        Command::Replay { common, schedule } => {
+            replay(rt, alloc, &setting(common, widths, rows), schedule.as_slice(), wires)
+        }
+        Command::Race { .. } | Command::Trace(_) | Command::Tamper { .. } => unreachable!(),
+    };
+    reply_of(alloc, played)
 }
