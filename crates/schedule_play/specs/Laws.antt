@@ -1,5 +1,5 @@
 -- What the definitions say together.
-use Rattle.std.specs.Prelude.{ℕ, ◌≡◌, ◌≤◌, ◌+◌, ◌*◌, false, Result, Ok, Err, List, [], ◌∷◌, length}
+use Rattle.std.specs.Prelude.{ℕ, ◌≡◌, ◌≤◌, ◌+◌, ◌*◌, ⊤, false, Result, Ok, Err, List, [], ◌∷◌, length}
 use Rattle.query_plan.specs.Seeds.{weights_of}
 use Rattle.query_plan.specs.Views.{key_from}
 use Rattle.query_plan.specs.declared.query.Query.{Query}
@@ -11,10 +11,10 @@ use Rattle.prg_chacha.specs.Prg.{derive_of}
 use Rattle.table_schema.specs.declared.widths.Widths.{Widths}
 use Rattle.weighted_check.specs.Check.{checked}
 use Rattle.weighted_check.specs.declared.Altered.{Altered}
-use Rattle.schedule_play.specs.History.{Done, opened_in, pair_at}
-use Rattle.schedule_play.specs.Plain.{plain_lines, plainly}
-use Rattle.schedule_play.specs.Stages.{Stage, played}
-use Rattle.schedule_play.specs.Tasks.{IsSetting, Setting, asking}
+use Rattle.schedule_play.specs.History.{Done, HasHistory, opened_in, pair_at}
+use Rattle.schedule_play.specs.Plain.{ArePlain, plain_lines, plainly}
+use Rattle.schedule_play.specs.Stages.{Stage, first_stage, played}
+use Rattle.schedule_play.specs.Tasks.{IsSetting, Setting, Task, asking}
 
 -- the line of query i over n rows, by what the check says
 abbrev pub checked_line : ℕ → ℕ → Query → Result ℕ Altered → Line
@@ -52,3 +52,8 @@ EndsPlainly report (Err t) = ⊥
 -- Where nothing is altered, each line is the plain answer over all rows.
 abbrev pub AskedPlainly : Type 0
 AskedPlainly = (w : Widths) (s : Setting) → IsSetting w s → EndsPlainly (plain_lines s.rows 0 s.queries) (played (plainly s) (asking s))
+
+-- Where each answer opened the plain one, steps come to what they come to plainly.
+abbrev pub PlainlyPlayed : Type 0
+PlainlyPlayed = (w : Widths) (task : Task) (history : List Done) → HasHistory w task history
+    → ArePlain (λ actor. ⊤) task.setting task.style first_stage history → played (opened_in history) task ≡ played (plainly task.setting) task

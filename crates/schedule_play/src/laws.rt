@@ -1,6 +1,6 @@
 //! What the definitions say together, as functions without effect.
 
-ghost use Rattle.schedule_play.specs.Laws.{AskedInOrder, AskedPlainly};
+ghost use Rattle.schedule_play.specs.Laws.{AskedInOrder, AskedPlainly, PlainlyPlayed};
 
 /// Where rows are appended one after another and then asked each query, no step is without a case, and each query has one
 /// line, over all rows, by what its answer opened.
@@ -11,4 +11,9 @@ pub fn asked_in_order()
 /// The same where nothing is altered: each line is the plain answer.
 pub fn asked_plainly()
     ensures { AskedPlainly }
+{}
+
+/// Steps each of whose answers opened the plain one come to what they come to plainly.
+pub fn plainly_played()
+    ensures { PlainlyPlayed }
 {}

@@ -1,0 +1,101 @@
+-- Where each answer opened the plain one, steps come to what they come to plainly.
+use Rattle.std.proofs.Common.{◌≡◌, ◌∙◌, refl, sym, ap, subst, ℕ, zero, suc, ◌+◌, List, [], ◌∷◌, arith}
+use Rattle.std.specs.Prelude.{⊤, Option, Some, None, Result, Ok, Err, option_map, slice_get}
+use Rattle.server_rounds.specs.declared.opened.OpenedPair.{OpenedPair}
+use Rattle.table_schema.specs.declared.widths.Widths.{Widths}
+use Rattle.waldo_core.specs.Answers.{IsPlain, IsPlainOver, rows_agreed}
+use Rattle.waldo_core.specs.Core.{Actor, Core, Fixes}
+use Rattle.waldo_core.specs.Core.Fixes.{Unfixed, First, Second, Agreed}
+use Rattle.waldo_core.specs.Step.{acts, step}
+use Rattle.waldo_core.specs.declared.events.Event.{Event}
+use Rattle.waldo_core.specs.declared.events.Event.TheVariants as events
+use Rattle.waldo_core.specs.declared.events.Reply.{Reply}
+use Rattle.waldo_words.specs.declared.schedule.Step.{Step}
+use Rattle.schedule_play.specs.History.{Done, IsHistory, GoesOn, HasHistory, HasNoCase, opened_in, pair_at}
+use Rattle.schedule_play.specs.Plain.{ArePlain, ArePlainOn, IsPlainOf, plain_of, plain_over, plainly}
+use Rattle.schedule_play.specs.Stages.{Opening, Stage, event_of, first_stage, next_stage, played, played_next, played_on, step_of, with_reply}
+use Rattle.schedule_play.specs.Tasks.{Setting, Task}
+use Rattle.schedule_play.specs.declared.style.Style.{Style}
+
+-- an answer of an actor with these fixes
+answered : (capacity : ℕ) (core : Core) (number : ℕ) (q : _) (seed : _) (pair : OpenedPair) (found : Option Actor)
+    → IsPlainOver core.order (rows_agreed found) q seed pair
+    → acts capacity core (events.Answer number q seed) pair found ≡ acts capacity core (events.Answer number q seed) (plain_over core q seed (rows_agreed found)) found
+answered capacity core number q seed pair None plain = refl
+answered capacity core number q seed pair (Some actor) plain = by actor.fixes refl
+  where
+    by : (fixes : Fixes) → actor.fixes ≡ fixes
+        → acts capacity core (events.Answer number q seed) pair (Some actor) ≡ acts capacity core (events.Answer number q seed) (plain_over core q seed (rows_agreed (Some actor))) (Some actor)
+    by Unfixed e = rw e refl
+    by (First p) e = rw e refl
+    by (Second p r) e = rw e refl
+    by (Agreed n) e = let same : pair ≡ plain_over core q seed (rows_agreed (Some actor)) = rw e (rw e at plain) in
+        ap (λ (p : OpenedPair). acts capacity core (events.Answer number q seed) p (Some actor)) same
+
+-- other events rest on no pair
+unopened : (capacity : ℕ) (core : Core) (event : Event) (p r : OpenedPair) (found : Option Actor) → ((number : ℕ) (q : _) (seed : _) → event ≡ events.Answer number q seed → ⊥)
+    → acts capacity core event p found ≡ acts capacity core event r found
+unopened capacity core event p r None other = refl
+unopened capacity core (events.Draw number row seed) p r (Some actor) other = refl
+unopened capacity core (events.Place number k) p r (Some actor) other = refl
+unopened capacity core (events.Look number k) p r (Some actor) other = refl
+unopened capacity core (events.Fix number) p r (Some actor) other = refl
+unopened capacity core (events.Answer number q seed) p r (Some actor) other = absurd (other number q seed refl)
+
+-- an event with what it opened, and with the plain answer
+event_plain : (capacity : ℕ) (core : Core) (event : Event) (pair : OpenedPair) → IsPlain core event pair
+    → step capacity core event pair ≡ step capacity core event (plain_of core (Some event))
+event_plain capacity core (events.Draw number row seed) pair plain = unopened capacity core (events.Draw number row seed) pair _ _ (λ a b c e. cc)
+event_plain capacity core (events.Place number k) pair plain = unopened capacity core (events.Place number k) pair _ _ (λ a b c e. cc)
+event_plain capacity core (events.Look number k) pair plain = unopened capacity core (events.Look number k) pair _ _ (λ a b c e. cc)
+event_plain capacity core (events.Fix number) pair plain = unopened capacity core (events.Fix number) pair _ _ (λ a b c e. cc)
+event_plain capacity core (events.Answer number q seed) pair plain = answered capacity core number q seed pair (slice_get core.actors number) plain
+
+opened_plain : (s : Setting) (stage : Stage) (event : Option Event) (pair : OpenedPair) → IsPlainOf stage event pair
+    → step_of s stage event pair ≡ step_of s stage event (plain_of stage.core event)
+opened_plain s stage None pair plain = refl
+opened_plain s stage (Some event) pair plain = event_plain _ stage.core event pair plain
+
+step_plain : (s : Setting) (style : Style) (stage : Stage) (x : Step) (pair : OpenedPair) (t : ℕ) → IsPlainOf stage (event_of s stage x) pair
+    → next_stage s style stage x pair ≡ next_stage s style stage x (plainly s t stage x)
+step_plain s style stage x pair t plain = ap (option_map (with_reply s style stage x)) (opened_plain s stage (event_of s stage x) pair plain)
+
+-- steps from a stage on, where each opens what its history says
+same : (w : Widths) (s : Setting) (style : Style) (opens : Opening) (t : ℕ) (stage : Stage) (xs : List Step) (ds : List Done)
+    → ((i : ℕ) (st : Stage) (x : Step) → opens (t + i) st x ≡ pair_at ds i)
+    → IsHistory w s style stage xs ds → ArePlain (λ actor. ⊤) s style stage ds
+    → played_on s style opens t stage xs ≡ played_on s style (plainly s) t stage xs
+same w s style opens t stage [] [] gives history plain = refl
+same w s style opens t stage [] (d ∷ ds) gives history plain = absurd history
+same w s style opens t stage (x ∷ xs) [] gives history plain =
+    ap (played_next s style opens t xs) (history (opens t stage x)) ∙ sym (ap (played_next s style (plainly s) t xs) (history (plainly s t stage x)))
+same w s style opens t stage (x ∷ xs) (d ∷ ds) gives history plain = by (next_stage s style stage x d.pair) refl
+  where
+    here : opens t stage x ≡ d.pair
+    here = let e : t + 0 ≡ t = omega arith in rw e at gives 0 stage x
+
+    later : (i : ℕ) (st : Stage) (y : Step) → opens (t + 1 + i) st y ≡ pair_at ds i
+    later i st y = let e : t + suc i ≡ t + 1 + i = omega arith in rw e at gives (suc i) st y
+
+    goes : GoesOn w s style (next_stage s style stage x d.pair) xs ds
+    goes = history.2.1
+
+    plain_here : IsPlainOf stage (event_of s stage x) d.pair
+    plain_here = subst (λ (y : Step). IsPlainOf stage (event_of s stage y) d.pair) history.0 (plain.0 tt)
+
+    plain_on : ArePlainOn (λ actor. ⊤) s style (next_stage s style stage x d.pair) ds
+    plain_on = subst (λ (y : Step). ArePlainOn (λ actor. ⊤) s style (next_stage s style stage y d.pair) ds) history.0 plain.1
+
+    by : (o : Option Stage) → next_stage s style stage x d.pair ≡ o → played_on s style opens t stage (x ∷ xs) ≡ played_on s style (plainly s) t stage (x ∷ xs)
+    by None e = absurd (rw e at goes)
+    by (Some next) e =
+        let left : next_stage s style stage x (opens t stage x) ≡ Some next = ap (next_stage s style stage x) here ∙ e in
+        let right : next_stage s style stage x (plainly s t stage x) ≡ Some next = sym (step_plain s style stage x d.pair t plain_here) ∙ e in
+        ap (played_next s style opens t xs) left
+        ∙ same w s style opens (t + 1) next xs ds later (rw e at goes) (rw e at plain_on)
+        ∙ sym (ap (played_next s style (plainly s) t xs) right)
+
+pub plainly_played : (w : Widths) (task : Task) (history : List Done) → HasHistory w task history
+    → ArePlain (λ actor. ⊤) task.setting task.style first_stage history → played (opened_in history) task ≡ played (plainly task.setting) task
+plainly_played w task history has plain =
+    same w task.setting task.style (opened_in history) 0 first_stage task.steps history (λ i st x. let e : 0 + i ≡ i = omega arith in rw e refl) has plain
