@@ -13,6 +13,7 @@ use Rattle.table_schema.specs.declared.widths.Widths.{Widths}
 use Rattle.schedule_play.specs.History.{Done, HasBroken, HasHistory}
 use Rattle.schedule_play.specs.Plain.{ArePlain}
 use Rattle.schedule_play.specs.Stages.{first_stage}
+use Rattle.schedule_play.specs.Tasks.{IsSetting}
 use Rattle.waldo_words.specs.declared.command.Command.{Command}
 use Rattle.waldo_words.specs.declared.command.Command.TheVariants as commands
 use Rattle.waldo_words.specs.declared.faults.WordFault.{WordFault}
@@ -34,6 +35,7 @@ change told faults before now = record { old = told before; new = told now; befo
 pub record AskedOver (unaltered : ℕ → Type 0) (command : Command) (history : List Done) (rows : List Row) : Type 0 where
   pub widths : Widths
   pub of : AreWidthsIn command widths
+  pub legal : IsSetting widths (task_over command rows).setting
   pub history : HasHistory widths (task_over command rows) history
   pub plain : ArePlain unaltered (task_over command rows).setting (task_over command rows).style first_stage history
 

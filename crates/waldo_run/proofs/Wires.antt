@@ -1,0 +1,32 @@
+-- The wires of a run.
+use Rattle.std.proofs.Common.{◌≡◌, refl, sym, ◌⊎◌, inl, inr, ℕ, zero, suc, ◌+◌, ◌-◌, ◌^◌, ◌<◌, ◌≤◌, min, nat_le, Bool, true, false, List, [], ◌∷◌, arith}
+use Rattle.fault_count.specs.Causes.{Rose}
+use Rattle.schedule_play.specs.Wires.{RoseAt, SomeRose}
+
+rose_by : (a b : ℕ) (t : Bool) → nat_le (min (a + 1) (2 ^ 64 - 1)) b ≡ t → Rose a b ⊎ (Rose a b → ⊥)
+rose_by a b true e = inl (grind arith)
+rose_by a b false e = inr (λ rose. absurd (grind arith))
+
+rose_or_not : (a b : ℕ) → Rose a b ⊎ (Rose a b → ⊥)
+rose_or_not a b = rose_by a b _ refl
+
+module _ {W : Type 0} (alterations : W → ℕ) where
+  -- unless some wire's count rose, none did
+  pub none_rose : (vs ws : List W) → (SomeRose alterations vs ws → ⊥) → (actor : ℕ) → RoseAt alterations actor vs ws → ⊥
+  none_rose [] ws still actor rose = absurd rose
+  none_rose (v ∷ vs) [] still actor rose = absurd rose
+  none_rose (v ∷ vs) (w ∷ ws) still zero rose = still (inl rose)
+  none_rose (v ∷ vs) (w ∷ ws) still (suc actor) rose = none_rose vs ws (λ some. still (inr some)) actor rose
+
+  -- if it can't be that none rose, some did
+  pub some_rose : (vs ws : List W) → (((actor : ℕ) → RoseAt alterations actor vs ws → ⊥) → ⊥) → SomeRose alterations vs ws
+  some_rose [] ws f = absurd (f (λ actor rose. rose))
+  some_rose (v ∷ vs) [] f = absurd (f (λ actor rose. rose))
+  some_rose (v ∷ vs) (w ∷ ws) f = elim (rose_or_not (alterations v) (alterations w)) [
+    | inl rose ↦ inl rose
+    | inr not_here ↦ inr (some_rose vs ws (λ none. f (λ actor. by actor none not_here)))
+  ]
+    where
+      by : (actor : ℕ) → ((a : ℕ) → RoseAt alterations a vs ws → ⊥) → (Rose (alterations v) (alterations w) → ⊥) → RoseAt alterations actor (v ∷ vs) (w ∷ ws) → ⊥
+      by zero none here rose = here rose
+      by (suc a) none here rose = none a rose
