@@ -1,14 +1,14 @@
 ghost use Rattle.std.specs.Prelude.{◌≡◌, Err, IfOk, map, string_bytes};
-ghost use Rattle.waldo_run.specs.Words.{command_of};
-ghost use Rattle.waldo_run.specs.declared.words.WordFault.TheVariants.{Word};
+ghost use Rattle.waldo_run.specs.Words.{command_in};
+ghost use Rattle.waldo_words.specs.declared.faults.WordFault.TheVariants.{Word};
 
 use std::alloc::{AllocError, Global};
 
 /// Words that are refused as an unknown command. They stand in for a line of which some argument is no text, since that
 /// one can't be told from its neighbours. The only error is want of memory.
-#[tactic(auto, unfolding(waldo_run::specs::Words::command_of))]
+#[tactic(auto, unfolding(waldo_run::specs::Words::command_in))]
 pub fn command(alloc: Global) -> Result<Vec<String>, AllocError>
-    ensures { IfOk result (λ words. command_of (map string_bytes words.items) ≡ Err (Word 0)) }
+    ensures { IfOk result (λ words. command_in (map string_bytes words.items) ≡ Err (Word 0)) }
 {
     let mut words = Vec::new(alloc);
     words.push(String::new(alloc))?;

@@ -1,9 +1,10 @@
 //! The top call: command words and bytes in, one text and a status out.
 //!
-//! [`run_still`] reads the words, then the input, asks the query of three servers through the first of 16 wires, and puts the
-//! whole report in one piece. Its contract is the program's: the wire carried the query's messages word for word, the report is
-//! a function of words, bytes and what these messages opened, over an unaltered wire of words and bytes alone, and every other
-//! status has its cause. It never puts a part of a report by itself, and reads nothing where the words are refused.
+//! [`run_still`] reads the words, then the rows, which come from the source or are made, does the command's steps on the core of
+//! three servers through 16 wires, and puts the whole report in one piece. Its contract is the program's: each answer's messages went
+//! over its actor's wire word for word, the report is the replies of the core to the command's steps, a function of words, bytes and
+//! what these messages opened, over an unaltered wire of words and bytes alone, and every other status has its cause. It never puts a
+//! part of a report by itself, and reads nothing where the words are refused.
 //!
 //! ```text
 //! let mut source = MemorySource::new(alloc, b"host,value\n3,10\n", &[])?;
@@ -13,14 +14,13 @@
 //! ```
 #![tactic(auto)]
 
-mod asking;
+mod made;
 mod reply;
 mod run;
-mod table;
+mod task;
 mod words;
 
 pub use run::run_still;
-pub use words::{Ask, Command, WordFault, read_words};
 
 #[cfg(test)]
 mod tests;

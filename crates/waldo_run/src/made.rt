@@ -1,5 +1,5 @@
 //! Rows that are made by a number.
-ghost use Rattle.std.specs.Prelude.{◌≡◌, ◌≤◌, ◌<◌, ◌^◌, All, IfOk, length};
+ghost use Rattle.std.specs.Prelude.{◌≡◌, ◌≤◌, ◌<◌, ◌+◌, ◌*◌, ◌%◌, ◌^◌, All, IfOk, get_or, length};
 ghost use Rattle.table_schema.specs.Widths.{Holds, column_bits};
 ghost use Rattle.waldo_run.specs.Made.{made_row, made_rows};
 
@@ -7,22 +7,32 @@ use ring128::Memory;
 use std::alloc::Global;
 use table_schema::{Row, Widths};
 
-// Row i: each column's bucket is the number plus i times the column's number, from 1, and its value is 1000 times the
-// number plus i, as far as there are buckets and values.
+// The bucket of column c in row i; past the columns it is 0.
+fn made_bucket(widths: &Widths, number: u32, i: u32, c: u8) -> u8
+    requires { c < 6 }
+    ensures value { result ≡ (number + i * (c + 1)) % 2 ^ get_or (column_bits widths.now) c 0 }
+    ensures held { result < 2 ^ get_or widths.now.bits c 0 }
+{
+    let buckets = 1u64 << widths.bits[c as usize];
+    ((u64::from(number) + u64::from(i) * (u64::from(c) + 1)) % buckets) as u8
+}
+
+// Row i.
 fn made_row(widths: &Widths, number: u32, i: u32) -> Row
     ensures row { result ≡ made_row (column_bits widths.now) number i }
     ensures held { Holds widths.now result }
 {
-    let (number, i) = (u64::from(number), u64::from(i));
-    let mut buckets = [0; 6];
-    for c in 0..widths.columns as usize {
-        let buckets_of = 1u64 << widths.bits[c];
-        buckets[c] = ((number + i * (c as u64 + 1)) % buckets_of) as u8;
-    }
     Row {
         columns: widths.columns,
-        buckets,
-        value: ((1000 * number + i) % (1 << 32)) as i64,
+        buckets: [
+            made_bucket(widths, number, i, 0),
+            made_bucket(widths, number, i, 1),
+            made_bucket(widths, number, i, 2),
+            made_bucket(widths, number, i, 3),
+            made_bucket(widths, number, i, 4),
+            made_bucket(widths, number, i, 5),
+        ],
+        value: ((1000 * u64::from(number) + u64::from(i)) % (1 << 32)) as i64,
     }
 }
 

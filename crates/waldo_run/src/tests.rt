@@ -17,7 +17,17 @@ const TIME: &str = "ask|time:8@1700000000/3600|--query|count time=1700000000";
 /// Words, an input, the status and the text that is put.
 type Case = (&'static str, &'static str, u8, &'static str);
 
-const CASES: [Case; 27] = [
+const AGAIN: &str =
+    "replay|host:2|--query|count host=3|--schedule|d0 p0.0 p0.1 d1 p1.0 p1.1 p1.2 f1 f1 f1";
+
+const AGAIN_TEXT: &str =
+    "draw 0 place 0\ndraw 1 place 1\nask 1.0 again server 2 had 0 floor 2\n";
+
+const ANSWERED: &str = "replay|host:2|--query|count host=3|--schedule|d0 p0.0 p0.1 d1 p1.0 p1.1 p1.2 f1 f1 f1 p0.2 f1 f1 f1 a1.0";
+
+const ANSWERED_TEXT: &str = "draw 0 place 0\ndraw 1 place 1\nask 1.0 again server 2 had 0 floor 2\nask 1.1 rows 2 count 1\n";
+
+const CASES: [Case; 49] = [
     (COUNT, INPUT, 0, "ask 0 rows 3 count 2\n"),
     (COUNT, "host,value\n", 0, "ask 0 rows 0 count 0\n"),
     (
@@ -119,6 +129,122 @@ const CASES: [Case; 27] = [
         "a,b,c,d,value\n1,2,9,4,5\n0,3,9,4,70\n1,4,9,4,600\n2,2,9,4,8000\n",
         0,
         "ask 0 rows 4 sum 75\n",
+    ),
+    // Several queries, options in any order, and both forms of an option.
+    (
+        "ask|host:2|--query|sum host=0..3|--query|sum host<=1",
+        INPUT,
+        0,
+        "ask 0 rows 3 sum 35\nask 1 rows 3 sum 20\n",
+    ),
+    (
+        "ask|host:2|--workers=16|--query=sum host=3|--seed|00000000000000000000000000000000000000000000000000000000000000FF",
+        INPUT,
+        0,
+        "ask 0 rows 3 sum 15\n",
+    ),
+    (
+        "ask|host:2|--query|count host=3|--capacity|2",
+        INPUT,
+        5,
+        "waldo: more rows than 2\n",
+    ),
+    (
+        "ask|host:2|--query|count host=3|--capacity|3",
+        INPUT,
+        0,
+        "ask 0 rows 3 count 2\n",
+    ),
+    (
+        "ask|--query|count host=3|host:2",
+        INPUT,
+        2,
+        "waldo: bad word 1\n",
+    ),
+    (
+        "ask|host:2|--query|count host=3|--workers|17",
+        INPUT,
+        2,
+        "waldo: bad word 5\n",
+    ),
+    (
+        "ask|host:2|--seed|-1|--query|count host=3",
+        INPUT,
+        2,
+        "waldo: bad word 3\n",
+    ),
+    // Schedules.
+    (AGAIN, INPUT, 0, AGAIN_TEXT),
+    (ANSWERED, INPUT, 0, ANSWERED_TEXT),
+    (
+        "replay|host:2|--query|count host=3|--schedule|d0 p0.0 p0.1 p0.2 d1 p1.0 l2.0 f2 f2",
+        INPUT,
+        0,
+        "draw 0 place 0\ndraw 1 place 1\nlook 2 server 0 prefix 2\nask 2.0 again server 1 had 1 floor 2\n",
+    ),
+    (
+        "replay|host:2|--query|count host=3|--schedule|d0 p0.0 p0.0 f1 f1",
+        INPUT,
+        0,
+        "draw 0 place 0\n",
+    ),
+    (
+        "replay|host:2|--query|count host=3|--schedule|a0.0",
+        INPUT,
+        2,
+        "waldo: step 0 not allowed\n",
+    ),
+    (
+        "replay|host:2|--query|count host=3|--schedule|d0 p0.0 p0.1 p0.2 d0 p0.0 p0.1 p0.2 d0 p0.0 p0.1 p0.2 d0",
+        INPUT,
+        2,
+        "waldo: step 12 not allowed\n",
+    ),
+    (
+        "replay|host:2|--schedule|f0 f0 f0 a0.1|--query|count host=3",
+        INPUT,
+        2,
+        "waldo: step 3 not allowed\n",
+    ),
+    (
+        "replay|host:2|--query|sum host=3|--schedule|d0 p0.2 p0.1 p0.0 l5.1 f5 f5 f5 a5.0 d9 a5.0 p9.1 p9.0 p9.2 f5 f5 f5 a5.0",
+        INPUT,
+        0,
+        "draw 0 place 0\nlook 5 server 1 prefix 1\nask 5.0 rows 1 sum 10\ndraw 9 place 1\nask 5.1 rows 1 sum 10\nask 5.2 rows 2 sum 10\n",
+    ),
+    (
+        "replay|host:2|--query|count host=3",
+        INPUT,
+        2,
+        "waldo: missing --schedule\n",
+    ),
+    (
+        "replay|host:2|--query|count host=3|--schedule|d16",
+        INPUT,
+        2,
+        "waldo: bad word 5\n",
+    ),
+    // Rows that are made: the input is not read.
+    (
+        "make|host:2|--number|7|--rows|4096|--query|sum host=3",
+        INPUT,
+        0,
+        "ask 0 rows 4096 sum 9263104\n",
+    ),
+    (
+        "make|a:8,b:1|--rows|3|--number|4294967295|--query|sum a<=0 b=1|--query|count a=1",
+        "",
+        0,
+        "ask 0 rows 3 sum 4294966297\nask 1 rows 3 count 1\n",
+    ),
+    ("make|host:2", "", 2, "waldo: missing --query\n"),
+    // Commands that are not built yet.
+    ("race", INPUT, 2, "waldo: bad word 0\n"),
+    (
+        "trace|host:2|--query|count host=3",
+        INPUT,
+        2,
+        "waldo: bad word 0\n",
     ),
 ];
 
