@@ -1,7 +1,10 @@
 -- The wires of a run.
 use Rattle.std.proofs.Common.{◌≡◌, refl, sym, ◌⊎◌, inl, inr, ℕ, zero, suc, ◌+◌, ◌-◌, ◌^◌, ◌<◌, ◌≤◌, min, nat_le, Bool, true, false, List, [], ◌∷◌, arith}
 use Rattle.fault_count.specs.Causes.{Rose}
-use Rattle.schedule_play.specs.Wires.{RoseAt, SomeRose}
+use Rattle.std.specs.Prelude.{Option}
+use Rattle.wire_line.specs.Carried.{went_none}
+use Rattle.wire_line.specs.declared.message.Message.{Message}
+use Rattle.schedule_play.specs.Wires.{RoseAt, SomeRose, WiresWent}
 
 rose_by : (a b : ℕ) (t : Bool) → nat_le (min (a + 1) (2 ^ 64 - 1)) b ≡ t → Rose a b ⊎ (Rose a b → ⊥)
 rose_by a b true e = inl (grind arith)
@@ -9,6 +12,15 @@ rose_by a b false e = inr (λ rose. absurd (grind arith))
 
 rose_or_not : (a b : ℕ) → Rose a b ⊎ (Rose a b → ⊥)
 rose_or_not a b = rose_by a b _ refl
+
+module _ {W : Type 0} (told : W → Option (List Message)) (alterations : W → ℕ) (passes : W → List Message → W → Type 0) (none : (s : W) → passes s [] s) where
+  -- without a step all wires are as they were
+  still_from : (actor : ℕ) (ws : List W) → WiresWent told alterations passes [] actor ws ws
+  still_from actor [] = tt
+  still_from actor (w ∷ ws) = (record { went = went_none told alterations passes w w refl refl (none w); still = λ _. refl }, still_from (actor + 1) ws)
+
+  pub still_wires : (ws : List W) → WiresWent told alterations passes [] 0 ws ws
+  still_wires ws = still_from 0 ws
 
 module _ {W : Type 0} (alterations : W → ℕ) where
   -- unless some wire's count rose, none did
