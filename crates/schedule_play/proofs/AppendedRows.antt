@@ -81,7 +81,7 @@ module _ (s : Setting) (opens : Opening) (others : List Actor) (rounds : List �
       ∙ places_third s opens others rounds grown j i (t + 1 + 1 + 1) xs more (missing i)
       ∙ ap (λ (js : List ℕ). played_on s Queries opens (t + 1 + 1 + 1 + 1) (without_lines (core_with grown js js js (resting (i + 1)) others) rounds) xs) (ap numbers_below on)
 
-  same_start : (t t' i i' : ℕ) (order order' : List (Row × Seed)) (xs : List Step) → t ≡ t' → i ≡ i' → order ≡ order'
+  pub same_start : (t t' i i' : ℕ) (order order' : List (Row × Seed)) (xs : List Step) → t ≡ t' → i ≡ i' → order ≡ order'
       → played_on s Queries opens t (with_rows order i others rounds) xs ≡ played_on s Queries opens t' (with_rows order' i' others rounds) xs
   same_start t t' i i' order order' xs same_t same_i same_order =
       ap (λ (u : ℕ). played_on s Queries opens u (with_rows order i others rounds) xs) same_t

@@ -1,5 +1,6 @@
 -- What steps come to, one after another.
 use Rattle.std.specs.Prelude.{ℕ, ◌≡◌, ◌+◌, ◌||◌, Bool, true, false, if◌then◌else◌, Option, Some, None, option_map, Result, Ok, Err, List, [], ◌∷◌, ◌++◌, length, slice_get, slice_set, slice_index_or}
+use Rattle.std.specs.Option.{option_map_or}
 use Rattle.list_facts.specs.Listed.{listed}
 use Rattle.prg_chacha.specs.Prg.{derive_of}
 use Rattle.query_plan.specs.declared.query.Query.{Query}
@@ -150,11 +151,8 @@ Opening = ℕ → Stage → Step → OpenedPair
 -- The last stage of some steps, the first of which has this number; or the number of the first step without a case.
 abbrev pub played_on : Setting → Style → Opening → ℕ → Stage → List Step → Result Stage ℕ
 played_on s style opens t stage [] = Ok stage
-played_on s style opens t stage (x ∷ xs) = played_next s style opens t xs (next_stage s style stage x (opens t stage x))
-
-abbrev pub played_next : Setting → Style → Opening → ℕ → List Step → Option Stage → Result Stage ℕ
-played_next s style opens t xs None = Err t
-played_next s style opens t xs (Some stage) = played_on s style opens (t + 1) stage xs
+played_on s style opens t stage (x ∷ xs) =
+    option_map_or (λ (next : Stage). played_on s style opens (t + 1) next xs) (next_stage s style stage x (opens t stage x)) (Err t)
 
 -- the same of all steps of a task
 abbrev pub played : Opening → Task → Result Stage ℕ

@@ -1,0 +1,4 @@
+pub mod AppendedRows
+pub mod AskedPlain
+pub mod AskedQueries
+pub mod RowNumbers
