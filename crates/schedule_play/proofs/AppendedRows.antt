@@ -37,7 +37,9 @@ module _ (s : Setting) (opens : Opening) (others : List Actor) (rounds : List �
   draws : (row : Row) → length order ≡ i → slice_get s.rows i ≡ Some row → ltb i (room_of s) ≡ true
       → played_on s Queries opens t (without_lines (core_with order j j j (resting i) others) rounds) (steps.Draw 0 ∷ xs)
       ≡ played_on s Queries opens (t + 1) (without_lines (core_with (order ++ (row, derive_of s.master 1 0 i) ∷ []) j j j (drawing i false false false) others) rounds) xs
-  draws row long at room = rw (long, at, room) refl
+  draws row long row_is room =
+      let there : slice_get s.rows (length order) ≡ Some row = ap (slice_get s.rows) long ∙ row_is in
+      rw (there, long, room) refl
 
   places_first : has i j ≡ false
       → played_on s Queries opens t (without_lines (core_with order j j j (drawing i false false false) others) rounds) (steps.Place 0 0 ∷ xs)
@@ -69,13 +71,13 @@ module _ (s : Setting) (opens : Opening) (others : List Actor) (rounds : List �
   one_row : (order : List (Row × Seed)) (i t : ℕ) (row : Row) (xs : List Step) → length order ≡ i → slice_get s.rows i ≡ Some row → i < length s.rows
       → played_on s Queries opens t (with_rows order i others rounds) (append_steps ++ xs)
       ≡ played_on s Queries opens (t + 1 + 1 + 1 + 1) (with_rows (order ++ (row, derive_of s.master 1 0 i) ∷ []) (i + 1) others rounds) xs
-  one_row order i t row xs long at inside =
+  one_row order i t row xs long row_is inside =
       let j = numbers_below i in
       let more = numbers_below i ++ i ∷ [] in
       let grown = order ++ (row, derive_of s.master 1 0 i) ∷ [] in
       let room : ltb i (room_of s) ≡ true = lt-ltb i (room_of s) (omega arith) in
       let on : suc i ≡ i + 1 = omega arith in
-      draws s opens others rounds order j i t (steps.Place 0 0 ∷ steps.Place 0 1 ∷ steps.Place 0 2 ∷ xs) row long at room
+      draws s opens others rounds order j i t (steps.Place 0 0 ∷ steps.Place 0 1 ∷ steps.Place 0 2 ∷ xs) row long row_is room
       ∙ places_first s opens others rounds grown j i (t + 1) (steps.Place 0 1 ∷ steps.Place 0 2 ∷ xs) (missing i)
       ∙ places_second s opens others rounds grown j i (t + 1 + 1) (steps.Place 0 2 ∷ xs) more (missing i)
       ∙ places_third s opens others rounds grown j i (t + 1 + 1 + 1) xs more (missing i)
@@ -93,11 +95,11 @@ module _ (s : Setting) (opens : Opening) (others : List Actor) (rounds : List �
       → ((k : ℕ) → slice_get s.rows (i + k) ≡ slice_get rest k) → i + length rest ≡ length s.rows
       → played_on s Queries opens t (with_rows order i others rounds) (flat_map (λ (row : ℕ). append_steps) (range_with_len i (length rest)) ++ xs)
       ≡ played_on s Queries opens (t + 4 * length rest) (with_rows (order ++ entries_from s.master i rest) (i + length rest) others rounds) xs
-  all_rows [] t i order xs long at size =
+  all_rows [] t i order xs long rest_is size =
       let same_t : t ≡ t + 4 * 0 = omega arith in
       let same_i : i ≡ i + 0 = omega arith in
       same_start t (t + 4 * 0) i (i + 0) order (order ++ []) xs same_t same_i (sym (append-nil order))
-  all_rows (row ∷ rows) t i order xs long at size =
+  all_rows (row ∷ rows) t i order xs long rest_is size =
       let entry : Row × Seed = (row, derive_of s.master 1 0 i) in
       let behind = entries_from s.master (i + 1) rows in
       let here : i ≡ i + 0 = omega arith in
@@ -106,10 +108,10 @@ module _ (s : Setting) (opens : Opening) (others : List Actor) (rounds : List �
       let grown : length (order ++ entry ∷ []) ≡ i + 1 = omega arith in
       let left : i + 1 + length rows ≡ length s.rows = omega arith in
       let others_at : (k : ℕ) → slice_get s.rows (i + 1 + k) ≡ slice_get rows k =
-      λ k. let on : i + 1 + k ≡ i + suc k = omega arith in ap (slice_get s.rows) on ∙ at (suc k) in
+      λ k. let on : i + 1 + k ≡ i + suc k = omega arith in ap (slice_get s.rows) on ∙ rest_is (suc k) in
       let same_t : t + 1 + 1 + 1 + 1 + 4 * length rows ≡ t + 4 * suc (length rows) = omega arith in
       let same_i : i + 1 + length rows ≡ i + suc (length rows) = omega arith in
-      one_row order i t row (flat_map (λ (r : ℕ). append_steps) (range_with_len (i + 1) (length rows)) ++ xs) long (ap (slice_get s.rows) here ∙ at 0) inside
+      one_row order i t row (flat_map (λ (r : ℕ). append_steps) (range_with_len (i + 1) (length rows)) ++ xs) long (ap (slice_get s.rows) here ∙ rest_is 0) inside
       ∙ all_rows rows (t + 1 + 1 + 1 + 1) (i + 1) (order ++ entry ∷ []) xs grown others_at left
       ∙ same_start (t + 1 + 1 + 1 + 1 + 4 * length rows) (t + 4 * suc (length rows)) (i + 1 + length rows) (i + suc (length rows))
       ((order ++ entry ∷ []) ++ behind) (order ++ entry ∷ behind) xs same_t same_i (append_assoc order (entry ∷ []) behind)

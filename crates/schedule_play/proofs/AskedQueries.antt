@@ -1,5 +1,5 @@
 -- Queries that actor 0 asks one after another over all rows.
-use Rattle.std.proofs.Common.{◌≡◌, ◌∙◌, refl, sym, ap, ℕ, zero, suc, ◌+◌, ◌*◌, Bool, true, false, ◌||◌, ltb, Some, None, Option, Result, Ok, Err, List, [], ◌∷◌, ◌++◌, length, slice_get, map, min, arith, append_assoc, append-nil}
+use Rattle.std.proofs.Common.{◌≡◌, ◌∙◌, refl, sym, ap, subst, ℕ, zero, suc, ◌+◌, ◌*◌, Bool, true, false, ◌||◌, ltb, Some, None, Option, Result, Ok, Err, List, [], ◌∷◌, ◌++◌, length, slice_get, map, min, arith, append_assoc, append-nil}
 use Rattle.std.specs.Prelude.{⊤}
 use Rattle.std.proofs.lemmas.Bool.{le-ltb}
 use Rattle.std.specs.List.{flat_map, range_with_len}
@@ -97,16 +97,16 @@ module _ (s : Setting) (order : List (Row × Seed)) (j : List ℕ) (n : ℕ) (ot
       → let stage = with_fixes order j n others (Agreed n) (q ∷ rounds) lines altered in
       with_reply s Queries stage (steps.Answer 0 q) (stage.core, reply_of n verdict)
       ≡ with_fixes order j n others (Agreed n) ((q + 1) ∷ rounds) (lines ++ checked_line n q query verdict ∷ []) (altered || is_refused verdict)
-  answer_line lines altered q query (Ok total) at = rw at refl
-  answer_line lines altered q query (Err pair) at = rw at refl
+  answer_line lines altered q query (Ok total) query_is = rw query_is refl
+  answer_line lines altered q query (Err pair) query_is = rw query_is refl
 
   answers : (lines : List Line) (altered : Bool) (q : ℕ) (query : Query) (pair : OpenedPair) → slice_get s.queries q ≡ Some query
       → next_stage s Queries (with_fixes order j n others (Agreed n) (q ∷ rounds) lines altered) (steps.Answer 0 q) pair
       ≡ Some (with_fixes order j n others (Agreed n) ((q + 1) ∷ rounds) (lines ++ checked_line n q query (check_of s q query pair) ∷ []) (altered || is_refused (check_of s q query pair)))
-  answers lines altered q query pair at =
+  answers lines altered q query pair query_is =
       let stage = with_fixes order j n others (Agreed n) (q ∷ rounds) lines altered in
-      let replied : next_stage s Queries stage (steps.Answer 0 q) pair ≡ Some (with_reply s Queries stage (steps.Answer 0 q) (stage.core, reply_of n (check_of s q query pair))) = rw at refl in
-      replied ∙ ap Some (answer_line lines altered q query (check_of s q query pair) at)
+      let replied : next_stage s Queries stage (steps.Answer 0 q) pair ≡ Some (with_reply s Queries stage (steps.Answer 0 q) (stage.core, reply_of n (check_of s q query pair))) = rw query_is refl in
+      replied ∙ ap Some (answer_line lines altered q query (check_of s q query pair) query_is)
 
 -- ---- query by query
 
@@ -126,22 +126,22 @@ module _ (s : Setting) (opens : Opening) (pairs : ℕ → OpenedPair) (order : L
       let verdict = check_of s q query (pairs q) in
       played_on s Queries opens t (with_fixes order j n others (Agreed n) (q ∷ rounds) lines altered) (steps.Answer 0 q ∷ xs)
       ≡ played_on s Queries opens (t + 1) (with_fixes order j n others (Agreed n) ((q + 1) ∷ rounds) (lines ++ checked_line n q query verdict ∷ []) (altered || is_refused verdict)) xs
-  answer t q query lines altered xs same at =
+  answer t q query lines altered xs same query_is =
       let n = length s.rows in
       let stage = with_fixes order j n others (Agreed n) (q ∷ rounds) lines altered in
       let verdict = check_of s q query (pairs q) in
       let after = with_fixes order j n others (Agreed n) ((q + 1) ∷ rounds) (lines ++ checked_line n q query verdict ∷ []) (altered || is_refused verdict) in
       let pair : opens t stage (steps.Answer 0 q) ≡ pairs q = ap (λ (u : ℕ). opens u stage (steps.Answer 0 q)) same ∙ opened q lines altered in
       one_step s opens t stage after (steps.Answer 0 q) xs
-      (ap (next_stage s Queries stage (steps.Answer 0 q)) pair ∙ answers s order j n others rounds lines altered q query (pairs q) at)
+      (ap (next_stage s Queries stage (steps.Answer 0 q)) pair ∙ answers s order j n others rounds lines altered q query (pairs q) query_is)
 
   -- all queries from one on
   all_queries : (rest : List Query) (t q : ℕ) (fixes : Fixes) (lines : List Line) (altered : Bool) → IsIdle fixes → t ≡ 4 * length s.rows + 4 * q
       → ((k : ℕ) → slice_get s.queries (q + k) ≡ slice_get rest k)
       → EndsIn (lines ++ asked_lines s pairs q rest) (altered || some_refused s pairs q rest)
       (played_on s Queries opens t (with_fixes order j (length s.rows) others fixes (q ∷ rounds) lines altered) (flat_map ask_steps (range_with_len q (length rest))))
-  all_queries [] t q fixes lines altered idle same at = (sym (append-nil lines), sym (or_none altered))
-  all_queries (query ∷ rest) t q fixes lines altered idle same at =
+  all_queries [] t q fixes lines altered idle same rest_is = (sym (append-nil lines), sym (or_none altered))
+  all_queries (query ∷ rest) t q fixes lines altered idle same rest_is =
       let n = length s.rows in
       let xs = flat_map ask_steps (range_with_len (q + 1) (length rest)) in
       let line = checked_line n q query (check_of s q query (pairs q)) in
@@ -150,13 +150,16 @@ module _ (s : Setting) (opens : Opening) (pairs : ℕ → OpenedPair) (order : L
       let last : t + 1 + 1 + 1 ≡ 4 * n + 4 * q + 3 = omega arith in
       let next : t + 1 + 1 + 1 + 1 ≡ 4 * n + 4 * (q + 1) = omega arith in
       let others_at : (k : ℕ) → slice_get s.queries (q + 1 + k) ≡ slice_get rest k =
-      λ k. let on : q + 1 + k ≡ q + suc k = omega arith in ap (slice_get s.queries) on ∙ at (suc k) in
+      λ k. let on : q + 1 + k ≡ q + suc k = omega arith in ap (slice_get s.queries) on ∙ rest_is (suc k) in
       let done =
       first_from s opens order j n others (q ∷ rounds) lines altered t (steps.Fix 0 ∷ steps.Fix 0 ∷ steps.Answer 0 q ∷ xs) whole fixes idle
       ∙ second s opens order j n others (q ∷ rounds) lines altered (t + 1) (steps.Fix 0 ∷ steps.Answer 0 q ∷ xs) whole
       ∙ third s opens order j n others (q ∷ rounds) lines altered (t + 1 + 1) (steps.Answer 0 q ∷ xs) whole
-      ∙ answer (t + 1 + 1 + 1) q query lines altered xs last (ap (slice_get s.queries) here ∙ at 0) in
-      ends_same _ _ _ _ _ _
+      ∙ answer (t + 1 + 1 + 1) q query lines altered xs last (ap (slice_get s.queries) here ∙ rest_is 0) in
+      ends_same ((lines ++ line ∷ []) ++ asked_lines s pairs (q + 1) rest) (lines ++ line ∷ asked_lines s pairs (q + 1) rest)
+      ((altered || refused) || some_refused s pairs (q + 1) rest) (altered || (refused || some_refused s pairs (q + 1) rest))
+      (played_on s Queries opens (t + 1 + 1 + 1 + 1) (with_fixes order j n others (Agreed n) ((q + 1) ∷ rounds) (lines ++ line ∷ []) (altered || refused)) xs)
+      (played_on s Queries opens t (with_fixes order j n others fixes (q ∷ rounds) lines altered) (ask_steps q ++ xs))
       (append_assoc lines (line ∷ []) (asked_lines s pairs (q + 1) rest)) (or_assoc altered refused (some_refused s pairs (q + 1) rest)) (sym done)
       (all_queries rest (t + 1 + 1 + 1 + 1) (q + 1) (Agreed n) (lines ++ line ∷ []) (altered || refused) tt next others_at)
 
@@ -188,7 +191,7 @@ in_order s opens pairs opened =
     let appended : played opens (asking s) ≡ start =
     all_rows s opens other_actors (0 ∷ other_rounds) s.rows 0 0 [] ask refl (λ k. ap (slice_get s.rows) (from_none k)) (from_none n)
     ∙ same_start s opens other_actors (0 ∷ other_rounds) (0 + 4 * n) (4 * n) (0 + n) n (all_entries s) (all_entries s) ask (from_none (4 * n)) (from_none n) refl in
-    ends_same _ _ _ _ _ _ refl refl (sym appended)
+    subst (λ (end : Result Stage ℕ). EndsIn (asked_lines s pairs 0 s.queries) (some_refused s pairs 0 s.queries) end) (sym appended)
     (all_queries s opens pairs (all_entries s) (all_numbers s) other_actors other_rounds (prefix-numbers_below n) opened s.queries (4 * n) 0 Unfixed [] false tt same
     (λ k. ap (slice_get s.queries) (from_none k)))
 
