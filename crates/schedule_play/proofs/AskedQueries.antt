@@ -3,7 +3,6 @@ use Rattle.std.proofs.Common.{◌≡◌, ◌∙◌, refl, sym, ap, subst, ℕ, z
 use Rattle.std.specs.Prelude.{⊤}
 use Rattle.std.proofs.lemmas.Bool.{le-ltb}
 use Rattle.std.specs.List.{flat_map, range_with_len}
-use Rattle.std.specs.Option.{option_map_or}
 use Rattle.prg_chacha.specs.Prg.{derive_of}
 use Rattle.prg_chacha.specs.declared.seed.Seed.{Seed}
 use Rattle.query_plan.specs.Seeds.{weights_of}
@@ -21,7 +20,7 @@ use Rattle.waldo_words.specs.declared.schedule.Step.{Step}
 use Rattle.waldo_words.specs.declared.schedule.Step.TheVariants as steps
 use Rattle.schedule_play.specs.History.{Done, opened_in}
 use Rattle.schedule_play.specs.Laws.{AskedInOrder, EndsInLines, asked_lines, checked_line, pair_of_query}
-use Rattle.schedule_play.specs.Stages.{Opening, Stage, next_stage, played, played_on, with_reply}
+use Rattle.schedule_play.specs.Stages.{Opening, Stage, go_on, next_stage, played, played_on, with_reply}
 use Rattle.schedule_play.specs.Tasks.{Setting, ask_steps, asking}
 use Rattle.schedule_play.specs.declared.style.Style.TheVariants.{Queries}
 use Rattle.schedule_play.proofs.AppendedRows.{all_rows, core_with, entries_from, same_start}
@@ -68,7 +67,7 @@ with_fixes order j n others fixes rounds lines altered =
 
 one_step : (s : Setting) (opens : Opening) (t : ℕ) (stage next : Stage) (x : Step) (xs : List Step) → next_stage s Queries stage x (opens t stage x) ≡ Some next
     → played_on s Queries opens t stage (x ∷ xs) ≡ played_on s Queries opens (t + 1) next xs
-one_step s opens t stage next x xs e = ap (λ (o : Option Stage). option_map_or (λ (after : Stage). played_on s Queries opens (t + 1) after xs) o (Err t)) e
+one_step s opens t stage next x xs e = ap (go_on (λ (after : Stage). played_on s Queries opens (t + 1) after xs) t) e
 
 -- ---- the four steps of a query
 
