@@ -1,6 +1,6 @@
 -- The messages of steps, and what they opened.
-use Rattle.std.specs.Prelude.{ℕ, zero, suc, ◌≡◌, ◌==◌, ◌⊎◌, ◌&&◌, ◌++◌, ⊤, Bool, true, false, if◌then◌else◌, Option, Some, None, List, [], ◌∷◌, slice_index_or}
-use Rattle.std.specs.List.{flat_map, list_any}
+use Rattle.std.specs.Prelude.{ℕ, zero, suc, ◌≡◌, ◌==◌, ◌⊎◌, ◌&&◌, ◌++◌, ⊤, Bool, true, false, if◌then◌else◌, IsSomeAnd, Option, Some, None, List, [], ◌∷◌}
+use Rattle.std.specs.List.{list_any}
 use Rattle.table_schema.specs.declared.widths.Widths.{Widths}
 use Rattle.server_rounds.specs.declared.opened.OpenedPair.{OpenedPair}
 use Rattle.wire_line.specs.declared.message.Message.{Message}
@@ -35,11 +35,8 @@ abbrev pub IsHistory : Widths → Setting → Style → Stage → List Step → 
 IsHistory w s style stage [] [] = ⊤
 IsHistory w s style stage [] (d ∷ ds) = ⊥
 IsHistory w s style stage (x ∷ xs) [] = HasNoCase s style stage x
-IsHistory w s style stage (x ∷ xs) (d ∷ ds) = (d.step ≡ x) × IsCarried w s stage d × GoesOn w s style (next_stage s style stage x d.pair) xs ds
-
-abbrev pub GoesOn : Widths → Setting → Style → Option Stage → List Step → List Done → Type 0
-GoesOn w s style None xs ds = ⊥
-GoesOn w s style (Some stage) xs ds = IsHistory w s style stage xs ds
+IsHistory w s style stage (x ∷ xs) (d ∷ ds) =
+    (d.step ≡ x) × IsCarried w s stage d × IsSomeAnd (next_stage s style stage x d.pair) (λ (next : Stage). IsHistory w s style next xs ds)
 
 -- the first messages of an event
 abbrev pub BeginsOf : Widths → Setting → Stage → Option Event → Done → Type 0
@@ -54,11 +51,7 @@ abbrev pub Breaks : Widths → Setting → Style → Stage → List Step → Lis
 Breaks w s style stage xs [] = ⊤
 Breaks w s style stage [] (d ∷ ds) = ⊥
 Breaks w s style stage (x ∷ xs) (d ∷ ds) =
-    (d.step ≡ x) × ((IsCarried w s stage d × BreaksOn w s style (next_stage s style stage x d.pair) xs ds) ⊎ (IsBegun w s stage d × (ds ≡ [])))
-
-abbrev pub BreaksOn : Widths → Setting → Style → Option Stage → List Step → List Done → Type 0
-BreaksOn w s style None xs ds = ⊥
-BreaksOn w s style (Some stage) xs ds = Breaks w s style stage xs ds
+    (d.step ≡ x) × ((IsCarried w s stage d × IsSomeAnd (next_stage s style stage x d.pair) (λ (next : Stage). Breaks w s style next xs ds)) ⊎ (IsBegun w s stage d × (ds ≡ [])))
 
 -- the history of a task, and that of one that was broken off
 abbrev pub HasHistory : Widths → Task → List Done → Type 0

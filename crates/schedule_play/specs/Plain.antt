@@ -1,5 +1,5 @@
 -- What steps come to where nothing is altered.
-use Rattle.std.specs.Prelude.{ℕ, ◌≡◌, ◌+◌, ⊤, Option, Some, None, List, [], ◌∷◌, length, slice_get}
+use Rattle.std.specs.Prelude.{ℕ, ◌≡◌, ◌+◌, ⊤, IfSome, Option, Some, None, List, [], ◌∷◌, length, slice_get}
 use Rattle.server_rounds.specs.declared.opened.OpenedPair.{OpenedPair}
 use Rattle.onehot_column.specs.Code.{word_of}
 use Rattle.query_plan.specs.declared.query.Query.{Query}
@@ -44,11 +44,7 @@ abbrev pub ArePlain : (ℕ → Type 0) → Setting → Style → Stage → List 
 ArePlain unaltered s style stage [] = ⊤
 ArePlain unaltered s style stage (d ∷ ds) =
     (unaltered (actor_in d.step) → IsPlainOf stage (event_of s stage d.step) d.pair)
-    × ArePlainOn unaltered s style (next_stage s style stage d.step d.pair) ds
-
-abbrev pub ArePlainOn : (ℕ → Type 0) → Setting → Style → Option Stage → List Done → Type 0
-ArePlainOn unaltered s style None ds = ⊤
-ArePlainOn unaltered s style (Some stage) ds = ArePlain unaltered s style stage ds
+    × IfSome (next_stage s style stage d.step d.pair) (λ (next : Stage). ArePlain unaltered s style next ds)
 
 -- the lines of queries, the first of which has this number, each asked plainly over all rows
 abbrev pub plain_lines : List Row → ℕ → List Query → List Line

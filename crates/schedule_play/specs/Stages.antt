@@ -147,14 +147,15 @@ next_stage s style stage x pair = option_map (with_reply s style stage x) (step_
 abbrev pub Opening : Type 0
 Opening = ℕ → Stage → Step → OpenedPair
 
+-- what comes after a step of this number, where it has a case
+abbrev pub go_on : (Stage → Result Stage ℕ) → ℕ → Option Stage → Result Stage ℕ
+go_on rest t None = Err t
+go_on rest t (Some stage) = rest stage
+
 -- The last stage of some steps, the first of which has this number; or the number of the first step without a case.
 abbrev pub played_on : Setting → Style → Opening → ℕ → Stage → List Step → Result Stage ℕ
 played_on s style opens t stage [] = Ok stage
-played_on s style opens t stage (x ∷ xs) = played_next s style opens t xs (next_stage s style stage x (opens t stage x))
-
-abbrev pub played_next : Setting → Style → Opening → ℕ → List Step → Option Stage → Result Stage ℕ
-played_next s style opens t xs None = Err t
-played_next s style opens t xs (Some stage) = played_on s style opens (t + 1) stage xs
+played_on s style opens t stage (x ∷ xs) = go_on (λ (next : Stage). played_on s style opens (t + 1) next xs) t (next_stage s style stage x (opens t stage x))
 
 -- the same of all steps of a task
 abbrev pub played : Opening → Task → Result Stage ℕ

@@ -1,5 +1,5 @@
 -- What steps did to the wires: each answer's messages went over its actor's.
-use Rattle.std.specs.Prelude.{ℕ, ◌≡◌, ◌+◌, ⊤, ◌⊎◌, false, Option, List, [], ◌∷◌}
+use Rattle.std.specs.Prelude.{ℕ, zero, suc, ◌≡◌, ◌+◌, ⊤, ◌⊎◌, false, Option, List, [], ◌∷◌}
 use Rattle.fault_count.specs.Causes.{Rose}
 use Rattle.wire_line.specs.Messages.{Went}
 use Rattle.wire_line.specs.declared.message.Message.{Message}

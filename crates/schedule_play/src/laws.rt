@@ -11,7 +11,9 @@ pub fn asked_in_order()
 /// The same where nothing is altered: each line is the plain answer.
 pub fn asked_plainly()
     ensures { AskedPlainly }
-{}
+{
+    transcript::laws::plain_is_small();
+}
 
 /// Steps each of whose answers opened the plain one come to what they come to plainly.
 pub fn plainly_played()
