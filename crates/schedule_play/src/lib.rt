@@ -4,9 +4,10 @@
 //! each query; `replay` has its schedule. Each step is an event of the machine. The first step without a case ends the run.
 #![tactic(auto)]
 
-pub mod laws;
 mod play;
+mod progress;
 mod setting;
+mod steps;
 mod style;
 
 pub use play::{PlayFault, Played, ask, replay};

@@ -1,0 +1,5 @@
+mod Advancing
+mod Cases
+mod Going
+mod Outcomes
+mod Single
