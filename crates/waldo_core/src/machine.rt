@@ -1,5 +1,5 @@
 //! The machine.
-ghost use Rattle.std.specs.Prelude.{◌≡◌, ◌<◌, ◌≤◌, None, Some, List, Ok, IfOk, IfErr, IfNone, IfSome, IsOk, length, slice_get};
+ghost use Rattle.std.specs.Prelude.{◌≡◌, ◌<◌, ◌≤◌, None, Some, List, Ok, Err, IfOk, IfErr, IfNone, IfSome, IsOk, length, slice_get};
 ghost use Rattle.fault_count.specs.Causes.{Rose};
 ghost use Rattle.list_facts.specs.Listed.{listed};
 ghost use Rattle.table_schema.specs.Widths.{Fits, Holds, column_bits};
@@ -123,6 +123,7 @@ impl Machine {
             × (¬ Rose (W.alterations wire.old) (W.alterations wire.new) → IsOk result → IsPlain self.old.core event pair) }
         ensures legal { IsLegal self.new.core }
         ensures quiet { IsQuiet event → wire.new ≡ wire.old }
+        ensures refused { (given : Event) → result ≡ Err (StepFault.NotAllowed given) → wire.new ≡ wire.old }
     {
         match self.act(rt, alloc, event, wire) {
             Ok(Some(reply)) => Ok(reply),
