@@ -1,5 +1,7 @@
 mod Advancing
 mod Cases
 mod Going
+mod Kept
+mod Loops
 mod Outcomes
 mod Single
