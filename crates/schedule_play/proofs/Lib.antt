@@ -1,7 +1,9 @@
 mod Advancing
 mod Cases
 mod Going
+mod Growing
 mod Kept
 mod Loops
 mod Outcomes
+mod Readying
 mod Single
