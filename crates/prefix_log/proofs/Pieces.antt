@@ -25,7 +25,7 @@ use Rattle.prefix_log.specs.Rows.{first_rows}
 use Rattle.prefix_log.specs.Snapshots.{HoldsPieces, column_from, pieces_in, firsts_of, seconds_of}
 
 -- the cells of a piece at a column are as many as the column is wide
-cells_wide : (w : Widths) (column : ℕ) (cells : List ℕ) → column ≤ w.columns → length cells ≡ code_length (column_bits w) → length (cells_at w column cells) ≡ width_of w column
+pub cells_wide : (w : Widths) (column : ℕ) (cells : List ℕ) → column ≤ w.columns → length cells ≡ code_length (column_bits w) → length (cells_at w column cells) ≡ width_of w column
 cells_wide w column cells le long =
     omega (arith, length-take (width_of w column) (drop (start_of w column) cells), length-drop (start_of w column) cells, long, whole_length w, start_more w column, start_below w (column + 1) (w.columns + 1) (omega arith))
 

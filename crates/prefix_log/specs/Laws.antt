@@ -1,17 +1,16 @@
 -- What the definitions say together.
 use Rattle.std.specs.Prelude.{◌≡◌, ℕ, ◌+◌, ◌%◌, ◌<◌, ◌≤◌, Option, Some, List, [], All, take, length, slice_get}
-use Rattle.std.specs.List.{flat_map}
 use Rattle.prg_chacha.specs.declared.seed.Seed.{Seed}
-use Rattle.replicated_share.specs.Share.{share_of}
 use Rattle.table_schema.specs.declared.rows.Row.{Row}
 use Rattle.table_schema.specs.declared.widths.Widths.{Widths}
-use Rattle.onehot_column.specs.Code.{cells_at, code_of}
 use Rattle.onehot_column.specs.Piece.{IsPiece}
 use Rattle.onehot_column.specs.declared.piece.Piece.{Piece}
+use Rattle.scan_chunks.specs.Shelf.{Held}
 use Rattle.prefix_log.specs.Journal.{IsPrefixOf}
 use Rattle.prefix_log.specs.Logs.{Log, empty_log, piece_at}
 use Rattle.prefix_log.specs.Placings.{placed_all, first_at, places_of}
-use Rattle.prefix_log.specs.Snapshots.{pieces_in, firsts_of, seconds_of}
+use Rattle.prefix_log.specs.Rows.{IsCut}
+use Rattle.prefix_log.specs.Snapshots.{HoldsPieces, KeepsRows, pieces_in, firsts_of, seconds_of, shares_of}
 
 -- a journal has one prefix
 abbrev pub PrefixIsOne : Type 0
@@ -34,9 +33,19 @@ AreSharings w k n entries slots = (place : ℕ) (entry : Row × Seed) → place 
 -- the pieces are as many as the rows, and at each column their cells are the parts of share k and of share k + 1 of the rows' codes
 pub record AreCellsOf (w : Widths) (k : ℕ) (entries : List (Row × Seed)) (pieces : List Piece) : Type 0 where
   pub count : length pieces ≡ length entries
-  pub first : (column : ℕ) → firsts_of w pieces column ≡ flat_map (λ (entry : Row × Seed). cells_at w column (share_of k entry.1 (code_of w entry.0))) entries
-  pub second : (column : ℕ) → seconds_of w pieces column ≡ flat_map (λ (entry : Row × Seed). cells_at w column (share_of ((k + 1) % 3) entry.1 (code_of w entry.0))) entries
+  pub first : (column : ℕ) → firsts_of w pieces column ≡ shares_of w k entries column
+  pub second : (column : ℕ) → seconds_of w pieces column ≡ shares_of w ((k + 1) % 3) entries column
 
 abbrev pub SharingsGiveCells : Type 0
 SharingsGiveCells = (w : Widths) (k n : ℕ) (entries : List (Row × Seed)) (slots : List (Option Piece)) → n ≤ length entries
     → AreSharings w k n entries slots → AreCellsOf w k (take n entries) (pieces_in (take n slots))
+
+-- a snapshot of slots that have a server's pieces of rows keeps these rows
+abbrev pub SnapshotsKeepRows : Type 0
+SnapshotsKeepRows = (w : Widths) (k n : ℕ) (entries : List (Row × Seed)) (slots : List (Option Piece)) (h : Held) → AreSharings w k n entries slots → n ≤ length entries
+    → HoldsPieces w (pieces_in (take n slots)) h → KeepsRows w k (take n entries) h
+
+-- and cut, it keeps the first of them
+abbrev pub CutKeepsRows : Type 0
+CutKeepsRows = (w : Widths) (k n : ℕ) (entries : List (Row × Seed)) (old new : Held) → KeepsRows w k entries old → n ≤ length entries
+    → IsCut n old new → KeepsRows w k (take n entries) new

@@ -1,6 +1,6 @@
 //! What the definitions say together, as functions without effect.
 
-ghost use Rattle.prefix_log.specs.Laws.{FirstsStay, PrefixIsOne, SharingsGiveCells};
+ghost use Rattle.prefix_log.specs.Laws.{CutKeepsRows, FirstsStay, PrefixIsOne, SharingsGiveCells, SnapshotsKeepRows};
 
 /// A journal has one prefix.
 pub fn prefix_is_one()
@@ -17,4 +17,15 @@ pub fn firsts_stay()
 /// are the parts of the server's shares of the rows' codes.
 pub fn sharings_give_cells()
     ensures { SharingsGiveCells }
+{}
+
+/// Where the slots below a number have a server's pieces of rows that were split by seeds, a snapshot of these slots
+/// keeps these rows.
+pub fn snapshots_keep_rows()
+    ensures { SnapshotsKeepRows }
+{}
+
+/// A snapshot that keeps rows and is cut keeps the first of them.
+pub fn cut_keeps_rows()
+    ensures { CutKeepsRows }
 {}

@@ -1,5 +1,14 @@
+pub mod Advancing
 pub mod AppendedRows
 pub mod AskedPlain
 pub mod AskedQueries
+pub mod Cases
+pub mod Going
+pub mod Growing
+pub mod Kept
+pub mod Loops
+pub mod Outcomes
 pub mod Plainly
+pub mod Readying
 pub mod RowNumbers
+pub mod Single

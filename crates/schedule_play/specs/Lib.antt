@@ -1,7 +1,9 @@
 pub mod History
 pub mod Laws
 pub mod Plain
+pub mod Leads
 pub mod Plays
+pub mod Ready
 pub mod Stages
 pub mod Tasks
 pub mod Wires

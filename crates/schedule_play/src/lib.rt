@@ -4,11 +4,15 @@
 //! each query; `replay` has its schedule. Each step is an event of the machine. The first step without a case ends the run.
 #![tactic(auto)]
 
-pub mod laws;
 mod play;
+mod progress;
 mod setting;
+mod steps;
 mod style;
 
 pub use play::{PlayFault, Played, ask, replay};
 pub use setting::Setting;
 pub use style::Style;
+
+#[cfg(test)]
+mod tests;

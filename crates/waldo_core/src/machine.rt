@@ -1,34 +1,278 @@
 //! The machine.
-ghost use Rattle.std.specs.Prelude.{◌≡◌, ◌≤◌, List, IfOk, IfErr};
+ghost use Rattle.std.specs.Prelude.{◌≡◌, ◌<◌, ◌≤◌, None, Some, List, Ok, Err, IfOk, IfErr, IfNone, IfSome, IsOk, length, slice_get};
 ghost use Rattle.fault_count.specs.Causes.{Rose};
-ghost use Rattle.table_schema.specs.Widths.{Fits, column_bits};
+ghost use Rattle.list_facts.specs.Listed.{listed};
+ghost use Rattle.table_schema.specs.Widths.{Fits, Holds, column_bits};
 ghost use Rattle.server_rounds.specs.declared.opened.OpenedPair.{OpenedPair};
 ghost use Rattle.wire_line.specs.Messages.{Went};
 ghost use Rattle.wire_line.specs.declared.message.Message.{Message};
-ghost use Rattle.waldo_core.specs.Answers.{IsPlain, IsQuiet};
+ghost use Rattle.waldo_core.specs.Answers.{IsPlain, IsQuiet, rows_agreed};
 ghost use Rattle.waldo_core.specs.Legal.{IsLegal};
 ghost use Rattle.waldo_core.specs.Machines.{HasOpenFault, IsHeld, Stepped, new_machine};
+ghost use Rattle.waldo_core.specs.Outcomes.{Quietly, named};
+ghost use Rattle.waldo_core.specs.Held.{IsAgreement, fresh_state};
 
-// (bodies: see the brief)
-/*
+use crate::actor::ActorState;
+use crate::answer::{open, reply_over};
+use crate::draw::OpenDraw;
+use crate::events::{Event, Reply, StepFault};
+use crate::logs::Logs;
+use crate::snapshots::{Agreement, Snapshots};
+use onehot_column::{RowPieces, pieces};
+use prefix_log::{OpenFault, Snapshot};
+use prg_chacha::Seed;
+use query_plan::{Query, make_keys};
+use ring128::Memory;
+use scan_chunks::Shelf;
+use std::alloc::Global;
+use std::marker::Model;
+use std::thread::Threads;
+use table_schema::{Row, Widths};
+use wire_line::Wire;
+
+/// The clients and the three servers of a table: the order of draws, which the clients know, the servers' logs of pieces,
+/// and sixteen actors.
+///
+/// Contracts see it as its widths, how many rows it takes, and its core.
+#[derive(Drop)]
+pub struct Machine {
+    widths: Widths,
+    capacity: u32,
+    workers: u8,
+    order: Vec<(Row, Seed)>,
+    logs: Logs,
+    actors: Vec<ActorState>,
+}
+
+impl Model for Machine {
+    ghost use Rattle.std.specs.Prelude.{vec_capacity};
+    ghost use Rattle.waldo_core.specs.Machines.{Seen};
+
+    ghost Value = { Seen };
+
+    ghost use Rattle.waldo_core.specs.Held.{IsMachine, seen_machine};
+
+    ghost view = { λ m. seen_machine ⟦<Snapshot as Shelf>⟧.held
+        (record { widths = m.widths; capacity = m.capacity; workers = m.workers; order = m.order.items; logs = m.logs; actors = m.actors.items }) };
+
+    ghost invariant = { λ m. IsMachine ⟦<Snapshot as Shelf>⟧.held (vec_capacity m.order)
+        (record { widths = m.widths; capacity = m.capacity; workers = m.workers; order = m.order.items; logs = m.logs; actors = m.actors.items }) };
+}
+
 impl Machine {
     /// A machine in which nothing was drawn, for rows of these widths, and for at most so many. Its scans use so many
     /// workers, from 1 to 16. It is refused where the capacity does not fit the widths.
-    pub fn new(alloc: Global, widths: Widths, capacity: u32, workers: u8) -> Result<Machine, OpenFault>
+    pub fn new(
+        alloc: Global,
+        widths: Widths,
+        capacity: u32,
+        workers: u8,
+    ) -> Result<Machine, OpenFault>
         requires some { 1 ≤ workers }
         requires few { workers ≤ 16 }
         ensures made { IfOk result (λ m. m ≡ new_machine widths capacity) }
         ensures fits { IfOk result (λ m. Fits (column_bits widths) capacity) }
         ensures fault { IfErr result (HasOpenFault widths capacity) }
+    {
+        if !widths.fits(capacity) {
+            return Err(OpenFault::Cells {
+                had: widths.cells(capacity),
+            });
+        }
+        match Machine::open(alloc, &widths, capacity, workers) {
+            Ok(machine) => Ok(machine),
+            Err(_) => Err(OpenFault::Memory),
+        }
+    }
+
+    // The same for a capacity that fits. All memory for the order is taken here.
+    fn open(
+        alloc: Global,
+        widths: &Widths,
+        capacity: u32,
+        workers: u8,
+    ) -> Result<Machine, Memory>
+        requires some { 1 ≤ workers }
+        requires few { workers ≤ 16 }
+        requires fits { Fits (column_bits widths.now) capacity }
+        ensures { IfOk result (λ m. m ≡ new_machine widths.now capacity) }
+    {
+        Ok(Machine {
+            widths: *widths,
+            capacity,
+            workers,
+            order: Vec::with_capacity(alloc, capacity as usize)?,
+            logs: Logs::new(alloc, widths, capacity)?,
+            actors: fresh_actors(alloc)?,
+        })
+    }
 
     /// Does an event. An event that has no case as things stand is refused; then, and for want of memory, the machine is as
-    /// before. The first messages of an answer may have been carried when memory was lacking; other events leave the wire as it is.
-    pub fn step<R: Threads + Sync, W: Wire>(&mut self, rt: &R, alloc: Global, event: Event, wire: &mut W) -> Result<Reply, StepFault>
+    /// before. The first messages of an answer may have been carried when memory was lacking; other events leave the wire as
+    /// it is.
+    pub fn step<R: Threads + Sync, W: Wire>(
+        &mut self,
+        rt: &R,
+        alloc: Global,
+        event: Event,
+        wire: &mut W,
+    ) -> Result<Reply, StepFault>
         requires held { IsHeld self.old.widths event }
         ensures stepped { (ms : List Message) × (pair : OpenedPair) × Went W.told W.alterations W.passes wire.old ms wire.new
             × Stepped self.old event ms pair self.new result
             × (¬ Rose (W.alterations wire.old) (W.alterations wire.new) → IsOk result → IsPlain self.old.core event pair) }
         ensures legal { IsLegal self.new.core }
         ensures quiet { IsQuiet event → wire.new ≡ wire.old }
+        ensures refused { (given : Event) → result ≡ Err (StepFault.NotAllowed given) → wire.new ≡ wire.old }
+    {
+        match self.act(rt, alloc, event, wire) {
+            Ok(Some(reply)) => Ok(reply),
+            Ok(None) => Err(StepFault::NotAllowed { event }),
+            Err(_) => Err(StepFault::Memory),
+        }
+    }
+
+    // Does an event. None: it has no case.
+    fn act<R: Threads + Sync, W: Wire>(
+        &mut self,
+        rt: &R,
+        alloc: Global,
+        event: Event,
+        wire: &mut W,
+    ) -> Result<Option<Reply>, Memory>
+        requires held { IsHeld self.old.widths event }
+        ensures stepped { (ms : List Message) × (pair : OpenedPair) × Went W.told W.alterations W.passes wire.old ms wire.new
+            × Stepped self.old event ms pair self.new (named event result)
+            × (¬ Rose (W.alterations wire.old) (W.alterations wire.new) → IsOk (named event result) → IsPlain self.old.core event pair) }
+        ensures quiet { IsQuiet event → wire.new ≡ wire.old }
+    {
+        match event {
+            Event::Draw { actor, row, seed } => self.draw(alloc, actor, &row, &seed),
+            Event::Place { actor, server } => Ok(self.place(actor, server)),
+            Event::Look { actor, server } => Ok(self.look(actor, server)),
+            Event::Fix { actor } => self.fix(alloc, actor),
+            Event::Answer { actor, query, seed } => {
+                self.answer(rt, alloc, actor, &query, &seed, wire)
+            }
+        }
+    }
+
+    // Draws the next place for a row.
+    fn draw(
+        &mut self,
+        alloc: Global,
+        number: u8,
+        row: &Row,
+        seed: &Seed,
+    ) -> Result<Option<Reply>, Memory>
+        requires { Holds self.old.widths row.now }
+        ensures { Quietly self.old (Event.Draw number row.now seed.now) self.new result }
+    {
+        let i = number as usize;
+        if i >= self.actors.len() || !self.actors[i].may_draw() {
+            return Ok(None);
+        }
+        let place = self.order.len() as u64;
+        if place >= u64::from(self.capacity) {
+            return Ok(Some(Reply::Full {
+                capacity: self.capacity,
+            }));
+        }
+        let RowPieces { zero, one, two } = pieces(alloc, &self.widths, row, seed)?;
+        self.order.push_reserved((*row, *seed));
+        self.actors[i].open(OpenDraw {
+            place,
+            zero: Some(zero),
+            one: Some(one),
+            two: Some(two),
+        });
+        Ok(Some(Reply::Drew { place }))
+    }
+
+    // Places the piece of an actor's open draw at a server.
+    fn place(&mut self, number: u8, server: u8) -> Option<Reply>
+        ensures { Quietly self.old (Event.Place number server) self.new (Ok result) }
+    {
+        let i = number as usize;
+        if i >= self.actors.len() {
+            return None;
+        }
+        self.logs.prefix(server);
+        self.actors[i].place(&mut self.logs, server)
+    }
+
+    // Lets an actor see how many of the first places a server has.
+    fn look(&mut self, number: u8, server: u8) -> Option<Reply>
+        ensures { Quietly self.old (Event.Look number server) self.new (Ok result) }
+    {
+        let i = number as usize;
+        if i >= self.actors.len() {
+            return None;
+        }
+        self.actors[i].look(&self.logs, server)
+    }
+
+    // Fixes an actor's next server.
+    fn fix(&mut self, alloc: Global, number: u8) -> Result<Option<Reply>, Memory>
+        ensures { Quietly self.old (Event.Fix number) self.new result }
+    {
+        let i = number as usize;
+        if i >= self.actors.len() {
+            return Ok(None);
+        }
+        let reply = self.actors[i].fix(alloc, &mut self.logs)?;
+        Ok(Some(reply))
+    }
+
+    // What an actor agreed on.
+    fn agreement(&self, number: u8) -> Option<&Agreement>
+        ensures none { IfNone result (rows_agreed (slice_get self.now.core.actors number) ≡ None) }
+        ensures some { IfSome result (λ a. IsAgreement ⟦<Snapshot as Shelf>⟧.held self.now number a.now) }
+    {
+        let i = number as usize;
+        if i >= self.actors.len() {
+            return None;
+        }
+        match &self.actors[i].snapshots {
+            Snapshots::Agreed(agreement) => Some(agreement),
+            _ => None,
+        }
+    }
+
+    // Asks a query over the rows that an actor agreed on.
+    fn answer<R: Threads + Sync, W: Wire>(
+        &self,
+        rt: &R,
+        alloc: Global,
+        number: u8,
+        query: &Query,
+        seed: &Seed,
+        wire: &mut W,
+    ) -> Result<Option<Reply>, Memory>
+        ensures { let event = Event.Answer number query.now seed.now in
+            (ms : List Message) × (pair : OpenedPair) × Went W.told W.alterations W.passes wire.old ms wire.new
+            × Stepped self.now event ms pair self.now (named event result)
+            × (¬ Rose (W.alterations wire.old) (W.alterations wire.new) → IsOk (named event result) → IsPlain self.now.core event pair) }
+    {
+        let Some(agreement) = self.agreement(number) else {
+            return Ok(None);
+        };
+        if !query.suits(&self.widths) {
+            return Ok(None);
+        }
+        let keys = make_keys(alloc, query, &self.widths, seed)?;
+        let pair = open(rt, alloc, agreement, self.workers, &keys, wire)?;
+        Ok(Some(reply_over(agreement.rows(), pair, &keys)))
+    }
 }
-*/
+
+// Sixteen actors that have seen nothing.
+fn fresh_actors(alloc: Global) -> Result<Vec<ActorState>, Memory>
+    ensures { IfOk result (λ actors. actors.items ≡ listed 16 (λ _. fresh_state)) }
+{
+    let mut actors = Vec::with_capacity(alloc, 16)?;
+    for _i in 0..16u8 {
+        actors.push_reserved(ActorState::new());
+    }
+    Ok(actors)
+}

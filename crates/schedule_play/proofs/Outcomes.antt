@@ -1,0 +1,106 @@
+-- What steps came to, put together of what some of them and the others came to.
+use Rattle.std.proofs.Common.{◌≡◌, ◌∙◌, refl, sym, ap, subst, ℕ, ◌+◌, ◌<◌, List, [], ◌∷◌, ◌++◌, length, Option, Result, Ok, Err, append-nil, length-append, arith}
+use Rattle.table_schema.specs.declared.widths.Widths.{Widths}
+use Rattle.wire_line.specs.Carried.{BothPass, NonePasses}
+use Rattle.wire_line.specs.declared.message.Message.{Message}
+use Rattle.waldo_words.specs.declared.schedule.Step.{Step}
+use Rattle.schedule_play.specs.History.{Breaks, Done, IsHistory, opened_in, pair_at}
+use Rattle.schedule_play.specs.Leads.{Advances, EndsAt, IsStill, Leads, Stops}
+use Rattle.schedule_play.specs.Plain.{ArePlain}
+use Rattle.schedule_play.specs.Plays.{EndsWith, Ended, Plays}
+use Rattle.schedule_play.specs.Stages.{Stage, first_stage, played}
+use Rattle.schedule_play.specs.Tasks.{Setting, Task}
+use Rattle.schedule_play.specs.Wires.{WiresWent}
+use Rattle.schedule_play.specs.declared.play.PlayFault.{PlayFault}
+use Rattle.schedule_play.specs.declared.play.PlayFault.TheVariants.{NotAllowed, Memory}
+use Rattle.schedule_play.specs.declared.play.Played.{Played}
+use Rattle.schedule_play.specs.declared.style.Style.{Style}
+use Rattle.schedule_play.proofs.Advancing.{advances_both, breaks_after, breaks_more, history_after, history_more, history_of, length_advances, plain_after, plain_weaker, played_all, played_refused}
+use Rattle.schedule_play.proofs.Going.{rose_first, rose_last, wires_both, wires_none}
+
+-- some steps were done, and then these came to an end
+ends_after : (w : Widths) (s : Setting) (style : Style) (t : ℕ) (xs ys : List Step) (ds es : List Done) (stage mid : Stage) (fault : PlayFault) → Advances w s style stage xs ds mid
+    → EndsAt w s style (t + length xs) mid ys es fault → EndsAt w s style t stage (xs ++ ys) (ds ++ es) fault
+ends_after w s style t xs ys ds es stage mid (NotAllowed index) p q =
+    let long = length_advances w s style xs ds stage mid p in (
+      history_after w s style xs ys ds es stage mid p q.0,
+      omega (arith, q.1, long, length-append ds es, length-append xs ys),
+      omega (arith, q.2, long, length-append ds es),
+    )
+ends_after w s style t xs ys ds es stage mid Memory p q = breaks_after w s style xs ys ds es stage mid p q
+
+-- more steps behind the one at which they came to an end
+ends_more : (w : Widths) (s : Setting) (style : Style) (t : ℕ) (xs ys : List Step) (ds : List Done) (stage : Stage) (fault : PlayFault)
+    → EndsAt w s style t stage xs ds fault → EndsAt w s style t stage (xs ++ ys) ds fault
+ends_more w s style t xs ys ds stage (NotAllowed index) p = (history_more w s style xs ys ds stage p.1 p.0, omega (arith, p.1, length-append xs ys), p.2)
+ends_more w s style t xs ys ds stage Memory p = breaks_more w s style xs ys ds stage p
+
+module _ {W : Type 0} (told : W → Option (List Message)) (alterations : W → ℕ) (passes : W → List Message → W → Type 0) (w : Widths) (s : Setting) (style : Style) where
+  -- what was opened over wires that were unaltered over all of the steps
+  plain_both : (stage mid : Stage) (vs us ws : List W) (xs : List Step) (ds es : List Done) → Advances w s style stage xs ds mid
+      → WiresWent told alterations passes ds 0 vs us → WiresWent told alterations passes es 0 us ws
+      → ArePlain (IsStill alterations vs us) s style stage ds → ArePlain (IsStill alterations us ws) s style mid es → ArePlain (IsStill alterations vs ws) s style stage (ds ++ es)
+  plain_both stage mid vs us ws xs ds es advances p q f g =
+      plain_after w s style (IsStill alterations vs ws) xs ds es stage mid advances
+      (plain_weaker (IsStill alterations vs us) (IsStill alterations vs ws) s style (λ actor still rose. still (rose_first told alterations passes 0 ds es actor vs us ws p q rose)) ds stage f)
+      (plain_weaker (IsStill alterations us ws) (IsStill alterations vs ws) s style (λ actor still rose. still (rose_last told alterations passes 0 ds es actor vs us ws p q rose)) es mid g)
+
+  pub leads_none : NonePasses passes → (stage : Stage) (vs : List W) → Leads told alterations passes w s style stage vs [] stage vs
+  leads_none none stage vs = record { history = []; sent = wires_none told alterations passes none 0 vs; plain = tt; advances = refl }
+
+  pub leads_both : BothPass passes → (stage mid end : Stage) (vs us ws : List W) (xs ys : List Step) → Leads told alterations passes w s style stage vs xs mid us
+      → Leads told alterations passes w s style mid us ys end ws → Leads told alterations passes w s style stage vs (xs ++ ys) end ws
+  leads_both both stage mid end vs us ws xs ys p q = record {
+    history = p.history ++ q.history;
+    sent = wires_both told alterations passes both p.history q.history 0 vs us ws p.sent q.sent;
+    plain = plain_both stage mid vs us ws xs p.history q.history p.advances p.sent q.sent p.plain q.plain;
+    advances = advances_both w s style xs ys p.history q.history stage mid end p.advances q.advances;
+  }
+
+  pub leads_stops : BothPass passes → (t : ℕ) (stage mid : Stage) (vs us ws : List W) (xs ys : List Step) (fault : PlayFault)
+      → Leads told alterations passes w s style stage vs xs mid us → Stops told alterations passes w s style (t + length xs) mid us ys ws fault
+      → Stops told alterations passes w s style t stage vs (xs ++ ys) ws fault
+  leads_stops both t stage mid vs us ws xs ys fault p q = record {
+    history = p.history ++ q.history;
+    sent = wires_both told alterations passes both p.history q.history 0 vs us ws p.sent q.sent;
+    plain = plain_both stage mid vs us ws xs p.history q.history p.advances p.sent q.sent p.plain q.plain;
+    ends = ends_after w s style t xs ys p.history q.history stage mid fault p.advances q.ends;
+  }
+
+  pub stops_more : (t : ℕ) (stage : Stage) (vs ws : List W) (xs ys : List Step) (fault : PlayFault) → Stops told alterations passes w s style t stage vs xs ws fault
+      → Stops told alterations passes w s style t stage vs (xs ++ ys) ws fault
+  stops_more t stage vs ws xs ys fault p = record { history = p.history; sent = p.sent; plain = p.plain; ends = ends_more w s style t xs ys p.history stage fault p.ends }
+
+-- the steps of a task open the pairs of their history
+same_pairs : (history : List Done) (i : ℕ) → i < length history → pair_at history (0 + i) ≡ pair_at history i
+same_pairs history i lt = ap (pair_at history) (omega arith)
+
+ended_at : (w : Widths) (task : Task) (history : List Done) (fault : PlayFault) → EndsAt w task.setting task.style 0 first_stage task.steps history fault
+    → Ended w task history (Err fault)
+ended_at w task history (NotAllowed index) p =
+    let at : index ≡ 0 + length history = p.2 in
+    (p.0, played_refused w task.setting task.style (pair_at history) task.steps history 0 first_stage p.0 p.1 (same_pairs history) ∙ ap Err (sym at))
+ended_at w task history Memory p = p
+
+module _ {W : Type 0} (told : W → Option (List Message)) (alterations : W → ℕ) (passes : W → List Message → W → Type 0) (w : Widths) (task : Task) (vs ws : List W) where
+  pub leads_plays : (end : Stage) (p : Played) → Leads told alterations passes w task.setting task.style first_stage vs task.steps end ws → p.report ≡ end.lines → p.altered ≡ end.altered
+      → Plays w task (λ history. WiresWent told alterations passes history 0 vs ws) (IsStill alterations vs ws) (Ok p)
+  leads_plays end p leads report altered = record {
+    history = leads.history;
+    sent = leads.sent;
+    plain = leads.plain;
+    ended = (
+      history_of w task.setting task.style task.steps leads.history first_stage end leads.advances,
+      subst (EndsWith p)
+      (sym (played_all w task.setting task.style (pair_at leads.history) task.steps leads.history 0 first_stage end leads.advances (same_pairs leads.history)))
+      (report, altered),
+    );
+  }
+
+  pub stops_plays : (fault : PlayFault) → Stops told alterations passes w task.setting task.style 0 first_stage vs task.steps ws fault
+      → Plays w task (λ history. WiresWent told alterations passes history 0 vs ws) (IsStill alterations vs ws) (Err fault)
+  stops_plays fault stops = record { history = stops.history; sent = stops.sent; plain = stops.plain; ended = ended_at w task stops.history fault stops.ends }
+
+  -- there was no memory to begin with
+  pub nothing_plays : NonePasses passes → ws ≡ vs → Plays w task (λ history. WiresWent told alterations passes history 0 vs ws) (IsStill alterations vs ws) (Err Memory)
+  nothing_plays none same = record { history = []; sent = subst (λ (us : List W). WiresWent told alterations passes [] 0 vs us) (sym same) (wires_none told alterations passes none 0 vs); plain = tt; ended = tt }

@@ -1,0 +1,124 @@
+-- One step at a machine.
+use Rattle.std.proofs.Common.{◌≡◌, ◌∙◌, refl, sym, ap, subst, ℕ, ◌+◌, ◌<◌, ◌≤◌, ◌⊎◌, inl, inr, Bool, true, false, List, [], ◌∷◌, length, get_or, set, Option, Some, None, option_map, IsSomeAnd, IfSome, arith, zero-add}
+use Rattle.fault_count.specs.Causes.{Rose}
+use Rattle.server_rounds.specs.declared.opened.OpenedPair.{OpenedPair}
+use Rattle.table_schema.specs.declared.widths.Widths.{Widths}
+use Rattle.waldo_core.specs.Answers.{Begins, Carries, IsPlain}
+use Rattle.waldo_core.specs.Core.{Core}
+use Rattle.waldo_core.specs.Machines.{HasNoCase as HasNoCaseAt, Seen}
+use Rattle.waldo_core.specs.Step.{Suited, step}
+use Rattle.waldo_core.specs.declared.events.Event.{Event}
+use Rattle.waldo_core.specs.declared.events.Reply.{Reply}
+use Rattle.waldo_words.specs.declared.schedule.Step.{Step}
+use Rattle.wire_line.specs.Carried.{BothPass, NonePasses}
+use Rattle.wire_line.specs.Messages.{Went}
+use Rattle.wire_line.specs.declared.message.Message.{Message}
+use Rattle.schedule_play.specs.History.{CarriesOf, BeginsOf, Done, HasNoCase, is_answer}
+use Rattle.schedule_play.specs.Leads.{Advances, IsStill, Leads, Stops}
+use Rattle.schedule_play.specs.Plain.{ArePlain, IsPlainOf, plain_of}
+use Rattle.schedule_play.specs.Stages.{Stage, actor_in, event_of, next_stage, step_of, with_reply}
+use Rattle.schedule_play.specs.Tasks.{Setting, room_of}
+use Rattle.schedule_play.specs.declared.play.PlayFault.TheVariants.{NotAllowed, Memory}
+use Rattle.schedule_play.specs.declared.style.Style.{Style}
+use Rattle.schedule_play.proofs.Cases.{plain_is_plain, step_absent, step_is}
+use Rattle.schedule_play.proofs.Going.{rose_here, wires_none, wires_one, wires_still}
+
+-- an entry of a history
+abbrev pub entry : Step → List Message → OpenedPair → Done
+entry x ms pair = record { step = x; messages = ms; pair = pair }
+
+some_if : {A : Type 0} (o : Option A) → IfSome o (λ (x : A). Unit {0})
+some_if None = tt
+some_if (Some x) = tt
+
+module _ (s : Setting) (style : Style) (stage : Stage) (x : Step) where
+  -- the stage after a step with an event
+  pub next_is : (event : Event) (pair : OpenedPair) (core : Core) (reply : Reply) → event_of s stage x ≡ Some event → step (room_of s) stage.core event pair ≡ Some (core, reply)
+      → next_stage s style stage x pair ≡ Some (with_reply s style stage x (core, reply))
+  next_is event pair core reply e does = ap (option_map (with_reply s style stage x)) (step_is s stage x event pair e ∙ does)
+
+  -- without an event, without an actor, or where the machine has no case, there is none
+  pub no_event : event_of s stage x ≡ None → HasNoCase s style stage x
+  no_event e = λ pair. ap (λ (o : Option Event). option_map (with_reply s style stage x) (step_of s stage o pair)) e
+
+  pub no_actor : length stage.core.actors ≤ actor_in x → HasNoCase s style stage x
+  no_actor far = λ pair. ap (option_map (with_reply s style stage x)) (step_absent s stage x pair (event_of s stage x) refl far)
+
+  pub no_case : (m : Seen) (event : Event) → event_of s stage x ≡ Some event → m.capacity ≡ room_of s → m.core ≡ stage.core → Suited m.widths event → HasNoCaseAt m event
+      → HasNoCase s style stage x
+  no_case m event e capacity core suited none = elim none [
+    | inl unsuited ↦ absurd (unsuited suited)
+    | inr never ↦ λ pair. ap (option_map (with_reply s style stage x)) (step_is s stage x event pair e ∙ never_at pair (never pair))
+  ]
+    where
+      never_at : (pair : OpenedPair) → step m.capacity m.core event pair ≡ None → step (room_of s) stage.core event pair ≡ None
+      never_at pair never = sym (ap (λ (n : ℕ). step n stage.core event pair) capacity) ∙ sym (ap (λ (c : Core). step m.capacity c event pair) core) ∙ never
+
+module _ {W : Type 0} (told : W → Option (List Message)) (alterations : W → ℕ) (passes : W → List Message → W → Type 0) (none : NonePasses passes)
+    (w : Widths) (s : Setting) (style : Style) (stage : Stage) (x : Step) (vs : List W) where
+  -- what a step opened over its wire
+  plain_one : (event : Event) (ms : List Message) (pair : OpenedPair) (v u : W) → event_of s stage x ≡ Some event → actor_in x < length vs → v ≡ get_or vs (actor_in x) v
+      → ((Rose (alterations v) (alterations u) → ⊥) → IsPlain stage.core event pair)
+      → ArePlain (IsStill alterations vs (set vs (actor_in x) u)) s style stage (entry x ms pair ∷ [])
+  plain_one event ms pair v u e there is plain = (
+    λ still. subst (λ (o : Option Event). IsPlainOf stage o pair) (sym e) (plain (λ rose. still (rose_here told alterations passes (actor_in x) vs v u there is rose))),
+    some_if (next_stage s style stage x pair),
+  )
+
+  -- a step that was done
+  pub step_leads : (event : Event) (ms : List Message) (pair : OpenedPair) (core : Core) (reply : Reply) (v u : W) (end : Stage) → event_of s stage x ≡ Some event
+      → Carries w stage.core event ms pair → step (room_of s) stage.core event pair ≡ Some (core, reply) → end ≡ with_reply s style stage x (core, reply)
+      → actor_in x < length vs → v ≡ get_or vs (actor_in x) v → Went told alterations passes v ms u → (is_answer x ≡ false → u ≡ v)
+      → ((Rose (alterations v) (alterations u) → ⊥) → IsPlain stage.core event pair)
+      → Leads told alterations passes w s style stage vs (x ∷ []) end (set vs (actor_in x) u)
+  step_leads event ms pair core reply v u end e carries does is_end there is went quiet plain = record {
+    history = entry x ms pair ∷ [];
+    sent = wires_one told alterations passes none (entry x ms pair) 0 (actor_in x) vs v u there is (sym (zero-add (actor_in x))) went quiet;
+    plain = plain_one event ms pair v u e there is plain;
+    advances = (
+      refl,
+      subst (λ (o : Option Event). CarriesOf w s stage o (entry x ms pair)) (sym e) carries,
+      subst (λ (o : Option Stage). IsSomeAnd o (λ (next : Stage). end ≡ next)) (sym (next_is s style stage x event pair core reply e does)) is_end,
+    );
+  }
+
+  -- a step that was done, but for its line
+  pub step_unreported : (t : ℕ) (event : Event) (ms : List Message) (pair : OpenedPair) (core : Core) (reply : Reply) (v u : W) → event_of s stage x ≡ Some event
+      → Carries w stage.core event ms pair → step (room_of s) stage.core event pair ≡ Some (core, reply)
+      → actor_in x < length vs → v ≡ get_or vs (actor_in x) v → Went told alterations passes v ms u → (is_answer x ≡ false → u ≡ v)
+      → ((Rose (alterations v) (alterations u) → ⊥) → IsPlain stage.core event pair)
+      → Stops told alterations passes w s style t stage vs (x ∷ []) (set vs (actor_in x) u) Memory
+  step_unreported t event ms pair core reply v u e carries does there is went quiet plain = record {
+    history = entry x ms pair ∷ [];
+    sent = wires_one told alterations passes none (entry x ms pair) 0 (actor_in x) vs v u there is (sym (zero-add (actor_in x))) went quiet;
+    plain = plain_one event ms pair v u e there is plain;
+    ends = (
+      refl,
+      inl (
+        subst (λ (o : Option Event). CarriesOf w s stage o (entry x ms pair)) (sym e) carries,
+        subst (λ (o : Option Stage). IsSomeAnd o (λ (next : Stage). Unit {0})) (sym (next_is s style stage x event pair core reply e does)) tt,
+      ),
+    );
+  }
+
+  -- a step whose messages were begun
+  pub step_begun : (t : ℕ) (event : Event) (ms : List Message) (v u : W) → event_of s stage x ≡ Some event → Begins w stage.core event ms
+      → actor_in x < length vs → v ≡ get_or vs (actor_in x) v → Went told alterations passes v ms u → (is_answer x ≡ false → u ≡ v)
+      → Stops told alterations passes w s style t stage vs (x ∷ []) (set vs (actor_in x) u) Memory
+  step_begun t event ms v u e begins there is went quiet =
+      let pair = plain_of stage.core (Some event) in
+      record {
+        history = entry x ms pair ∷ [];
+        sent = wires_one told alterations passes none (entry x ms pair) 0 (actor_in x) vs v u there is (sym (zero-add (actor_in x))) went quiet;
+        plain = plain_one event ms pair v u e there is (λ still. plain_is_plain stage.core event);
+        ends = (refl, inr (subst (λ (o : Option Event). BeginsOf w s stage o (entry x ms pair)) (sym e) begins, refl));
+      }
+
+  -- a step without a case
+  pub step_refused : (t : ℕ) → HasNoCase s style stage x → Stops told alterations passes w s style t stage vs (x ∷ []) vs (NotAllowed t)
+  step_refused t never = record { history = []; sent = wires_none told alterations passes none 0 vs; plain = tt; ends = (never, omega arith, omega arith) }
+
+  pub step_refused_at : (t : ℕ) (v u : W) → HasNoCase s style stage x → v ≡ get_or vs (actor_in x) v → u ≡ v
+      → Stops told alterations passes w s style t stage vs (x ∷ []) (set vs (actor_in x) u) (NotAllowed t)
+  step_refused_at t v u never is same =
+      record { history = []; sent = wires_still told alterations passes none (actor_in x) vs v u is same; plain = tt; ends = (never, omega arith, omega arith) }

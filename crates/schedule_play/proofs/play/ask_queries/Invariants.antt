@@ -1,0 +1,11 @@
+use Rattle.std.proofs.Common.{ℕ}
+use Rattle.std.specs.List.{flat_map, range_with_len}
+use Rattle.schedule_play.specs.Plays.{seen}
+use Rattle.schedule_play.specs.Tasks.{ask_steps}
+use Rattle.schedule_play.specs.declared.style.Style.TheVariants.{Queries}
+use Rattle.schedule_play.proofs.Kept.{Kept}
+use Rattle.schedule_play.proofs.play.ask_queries.Given as goal
+
+abbrev pub invariant-loop-query : goal.invariant-loop-query
+invariant-loop-query g l = Kept g.W.Wire.told g.W.Wire.alterations g.W.Wire.passes l.setting.widths (seen l.setting) Queries
+    l.initial.progress l.initial.wires.items (flat_map ask_steps (range_with_len 0 l.query)) l.progress l.wires.items

@@ -1,0 +1,78 @@
+//! The logs of the three servers.
+ghost use Rattle.std.specs.Prelude.{◌≡◌, ◌<◌, Some, IfOk, take};
+ghost use Rattle.onehot_column.specs.declared.piece.Piece.{Piece};
+ghost use Rattle.table_schema.specs.Widths.{Fits, column_bits};
+ghost use Rattle.prefix_log.specs.Logs.{IsLog, IsOwn, empty_log};
+ghost use Rattle.waldo_core.specs.Core.{prefix as prefix_in};
+ghost use Rattle.waldo_core.specs.Held.{IsFixOf, log_of, with_piece};
+
+use onehot_column::Piece;
+use prefix_log::{ServerLog, Snapshot, laws};
+use ring128::Memory;
+use scan_chunks::Shelf;
+use std::alloc::Global;
+use table_schema::Widths;
+
+/// The logs of servers 0, 1 and 2.
+#[derive(Drop)]
+pub(crate) struct Logs {
+    pub zero: ServerLog,
+    pub one: ServerLog,
+    pub two: ServerLog,
+}
+
+impl Logs {
+    /// Logs without pieces. The only error is want of memory.
+    pub(crate) fn new(alloc: Global, widths: &Widths, capacity: u32) -> Result<Logs, Memory>
+        requires { Fits (column_bits widths.now) capacity }
+        ensures zero { IfOk result (λ logs. logs.zero ≡ empty_log 0 widths.now capacity) }
+        ensures one { IfOk result (λ logs. logs.one ≡ empty_log 1 widths.now capacity) }
+        ensures two { IfOk result (λ logs. logs.two ≡ empty_log 2 widths.now capacity) }
+    {
+        Ok(Logs {
+            zero: ServerLog::new(alloc, 0, widths, capacity)?,
+            one: ServerLog::new(alloc, 1, widths, capacity)?,
+            two: ServerLog::new(alloc, 2, widths, capacity)?,
+        })
+    }
+
+    /// How many of the first places a server has.
+    pub(crate) fn prefix(&self, server: u8) -> u64
+        ensures value { result ≡ prefix_in (log_of self.now server).journal }
+        ensures legal { IsLog (log_of self.now server) }
+    {
+        match server {
+            0 => self.zero.prefix(),
+            1 => self.one.prefix(),
+            _ => self.two.prefix(),
+        }
+    }
+
+    /// Puts a piece at a place of a server, where there is one to put.
+    pub(crate) fn place(&mut self, server: u8, place: u64, piece: Option<Piece>)
+        requires below { place < (log_of self.old server).capacity }
+        requires own { (p : Piece) → piece ≡ Some p → IsOwn (log_of self.old server).server (log_of self.old server).widths p }
+        ensures { self.new ≡ with_piece self.old server place piece }
+    {
+        let Some(piece) = piece else {
+            return;
+        };
+        match server {
+            0 => self.zero.place(place, piece),
+            1 => self.one.place(place, piece),
+            _ => self.two.place(place, piece),
+        }
+    }
+
+    /// A snapshot of a server's first places. The only error is want of memory.
+    pub(crate) fn fix(&mut self, alloc: Global, server: u8) -> Result<Snapshot, Memory>
+        ensures stays { self.new ≡ self.old }
+        ensures fixed { IfOk result (λ s. IsFixOf (⟦<Snapshot as Shelf>⟧.held s) (log_of self.old server)) }
+    {
+        match server {
+            0 => self.zero.fix(alloc),
+            1 => self.one.fix(alloc),
+            _ => self.two.fix(alloc),
+        }
+    }
+}
