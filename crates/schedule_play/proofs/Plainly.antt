@@ -1,6 +1,6 @@
 -- Where each answer opened the plain one, steps come to what they come to plainly.
 use Rattle.std.proofs.Common.{◌≡◌, ◌∙◌, refl, sym, ap, subst, ℕ, zero, suc, ◌+◌, List, [], ◌∷◌, arith}
-use Rattle.std.specs.Prelude.{⊤, Option, Some, None, Result, Ok, Err, option_map, slice_get}
+use Rattle.std.specs.Prelude.{⊤, IfSome, IsSomeAnd, Option, Some, None, Result, Ok, Err, option_map, slice_get}
 use Rattle.server_rounds.specs.declared.opened.OpenedPair.{OpenedPair}
 use Rattle.table_schema.specs.declared.widths.Widths.{Widths}
 use Rattle.waldo_core.specs.Answers.{IsPlain, IsPlainOver, rows_agreed}
@@ -11,9 +11,9 @@ use Rattle.waldo_core.specs.declared.events.Event.{Event}
 use Rattle.waldo_core.specs.declared.events.Event.TheVariants as events
 use Rattle.waldo_core.specs.declared.events.Reply.{Reply}
 use Rattle.waldo_words.specs.declared.schedule.Step.{Step}
-use Rattle.schedule_play.specs.History.{Done, IsHistory, GoesOn, HasHistory, HasNoCase, opened_in, pair_at}
-use Rattle.schedule_play.specs.Plain.{ArePlain, ArePlainOn, IsPlainOf, plain_of, plain_over, plainly}
-use Rattle.schedule_play.specs.Stages.{Opening, Stage, event_of, first_stage, next_stage, played, played_next, played_on, step_of, with_reply}
+use Rattle.schedule_play.specs.History.{Done, IsHistory, HasHistory, HasNoCase, opened_in, pair_at}
+use Rattle.schedule_play.specs.Plain.{ArePlain, IsPlainOf, plain_of, plain_over, plainly}
+use Rattle.schedule_play.specs.Stages.{Opening, Stage, event_of, first_stage, go_on, next_stage, played, played_on, step_of, with_reply}
 use Rattle.schedule_play.specs.Tasks.{Setting, Task}
 use Rattle.schedule_play.specs.declared.style.Style.{Style}
 
@@ -60,6 +60,10 @@ step_plain : (s : Setting) (style : Style) (stage : Stage) (x : Step) (pair : Op
     → next_stage s style stage x pair ≡ next_stage s style stage x (plainly s t stage x)
 step_plain s style stage x pair t plain = ap (option_map (with_reply s style stage x)) (opened_plain s stage (event_of s stage x) pair plain)
 
+-- what comes after a step
+abbrev rest_of : Widths → Setting → Style → Opening → ℕ → List Step → Stage → Result Stage ℕ
+rest_of w s style opens t xs next = played_on s style opens (t + 1) next xs
+
 -- steps from a stage on, where each opens what its history says
 same : (w : Widths) (s : Setting) (style : Style) (opens : Opening) (t : ℕ) (stage : Stage) (xs : List Step) (ds : List Done)
     → ((i : ℕ) (st : Stage) (x : Step) → opens (t + i) st x ≡ pair_at ds i)
@@ -68,7 +72,7 @@ same : (w : Widths) (s : Setting) (style : Style) (opens : Opening) (t : ℕ) (s
 same w s style opens t stage [] [] gives history plain = refl
 same w s style opens t stage [] (d ∷ ds) gives history plain = absurd history
 same w s style opens t stage (x ∷ xs) [] gives history plain =
-    ap (played_next s style opens t xs) (history (opens t stage x)) ∙ sym (ap (played_next s style (plainly s) t xs) (history (plainly s t stage x)))
+    ap (go_on (rest_of w s style opens t xs) t) (history (opens t stage x)) ∙ sym (ap (go_on (rest_of w s style (plainly s) t xs) t) (history (plainly s t stage x)))
 same w s style opens t stage (x ∷ xs) (d ∷ ds) gives history plain = by (next_stage s style stage x d.pair) refl
   where
     here : opens t stage x ≡ d.pair
@@ -77,23 +81,25 @@ same w s style opens t stage (x ∷ xs) (d ∷ ds) gives history plain = by (nex
     later : (i : ℕ) (st : Stage) (y : Step) → opens (t + 1 + i) st y ≡ pair_at ds i
     later i st y = let e : t + suc i ≡ t + 1 + i = omega arith in rw e at gives (suc i) st y
 
-    goes : GoesOn w s style (next_stage s style stage x d.pair) xs ds
-    goes = history.2.1
+    goes : IsSomeAnd (next_stage s style stage x d.pair) (λ (next : Stage). IsHistory w s style next xs ds)
+    goes = history.2
 
     plain_here : IsPlainOf stage (event_of s stage x) d.pair
     plain_here = subst (λ (y : Step). IsPlainOf stage (event_of s stage y) d.pair) history.0 (plain.0 tt)
 
-    plain_on : ArePlainOn (λ actor. ⊤) s style (next_stage s style stage x d.pair) ds
-    plain_on = subst (λ (y : Step). ArePlainOn (λ actor. ⊤) s style (next_stage s style stage y d.pair) ds) history.0 plain.1
+    plain_on : IfSome (next_stage s style stage x d.pair) (λ (next : Stage). ArePlain (λ actor. ⊤) s style next ds)
+    plain_on = subst (λ (y : Step). IfSome (next_stage s style stage y d.pair) (λ (next : Stage). ArePlain (λ actor. ⊤) s style next ds)) history.0 plain.1
 
     by : (o : Option Stage) → next_stage s style stage x d.pair ≡ o → played_on s style opens t stage (x ∷ xs) ≡ played_on s style (plainly s) t stage (x ∷ xs)
-    by None e = absurd (rw e at goes)
+    by None e = absurd (subst (λ (o : Option Stage). IsSomeAnd o (λ (next : Stage). IsHistory w s style next xs ds)) e goes)
     by (Some next) e =
         let left : next_stage s style stage x (opens t stage x) ≡ Some next = ap (next_stage s style stage x) here ∙ e in
         let right : next_stage s style stage x (plainly s t stage x) ≡ Some next = sym (step_plain s style stage x d.pair t plain_here) ∙ e in
-        ap (played_next s style opens t xs) left
-        ∙ same w s style opens (t + 1) next xs ds later (rw e at goes) (rw e at plain_on)
-        ∙ sym (ap (played_next s style (plainly s) t xs) right)
+        let on : IsHistory w s style next xs ds = subst (λ (o : Option Stage). IsSomeAnd o (λ (next : Stage). IsHistory w s style next xs ds)) e goes in
+        let clear : ArePlain (λ actor. ⊤) s style next ds = subst (λ (o : Option Stage). IfSome o (λ (next : Stage). ArePlain (λ actor. ⊤) s style next ds)) e plain_on in
+        ap (go_on (rest_of w s style opens t xs) t) left
+        ∙ same w s style opens (t + 1) next xs ds later on clear
+        ∙ sym (ap (go_on (rest_of w s style (plainly s) t xs) t) right)
 
 pub plainly_played : (w : Widths) (task : Task) (history : List Done) → HasHistory w task history
     → ArePlain (λ actor. ⊤) task.setting task.style first_stage history → played (opened_in history) task ≡ played (plainly task.setting) task

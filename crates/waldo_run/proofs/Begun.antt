@@ -1,6 +1,6 @@
 -- What was carried and answered over the rows of a command, or over the first fault of its input.
 use Rattle.std.proofs.Common.{◌≡◌, ◌≢◌, ◌∙◌, refl, sym, ap, subst, ℕ, ◌⊎◌, inl, inr, true, false, Bool, List, [], ◌∷◌, arith}
-use Rattle.std.specs.Prelude.{⊤, Option, Some, None, Result, Ok, Err, OnErr, IfOk, MatchBool}
+use Rattle.std.specs.Prelude.{⊤, IsSomeAnd, Option, Some, None, Result, Ok, Err, OnErr, IfOk, MatchBool}
 use Rattle.ring128.specs.declared.memory.Memory.{Memory}
 use Rattle.row_source.specs.Input.{Reading, Reads, most_bytes}
 use Rattle.row_source.specs.Input.Reading.{Untouched, Whole, Long, Broken}
@@ -9,7 +9,7 @@ use Rattle.row_source.specs.declared.faults.RowFault.TheVariants as row
 use Rattle.report_lines.specs.declared.lines.Line.TheVariants as lines
 use Rattle.table_schema.specs.declared.rows.Row.{Row}
 use Rattle.table_schema.specs.declared.widths.Widths.{Widths}
-use Rattle.schedule_play.specs.History.{Breaks as BreaksFrom, BreaksOn, Done, GoesOn, HasBroken, HasHistory, IsHistory}
+use Rattle.schedule_play.specs.History.{Breaks as BreaksFrom, Done, HasBroken, HasHistory, IsHistory}
 use Rattle.schedule_play.specs.Stages.{Stage, next_stage}
 use Rattle.schedule_play.specs.Tasks.{Setting}
 use Rattle.schedule_play.specs.declared.style.Style.{Style}
@@ -182,8 +182,8 @@ all_begun w s style stage xs [] h = tt
 all_begun w s style stage [] (d ∷ ds) h = absurd h
 all_begun w s style stage (x ∷ xs) (d ∷ ds) h = (h.0, inl (h.1, on (next_stage s style stage x d.pair) h.2))
   where
-    on : (o : Option Stage) → GoesOn w s style o xs ds → BreaksOn w s style o xs ds
-    on None g = g
+    on : (o : Option Stage) → IsSomeAnd o (λ (next : Stage). IsHistory w s style next xs ds) → IsSomeAnd o (λ (next : Stage). BreaksFrom w s style next xs ds)
+    on None g = absurd g
     on (Some next) g = all_begun w s style next xs ds g
 
 begun_in : (unaltered : ℕ → Type 0) (command : Command) (history : List Done) (r : Result (List Row) RowFault) → AskedIn unaltered command history r → BegunIn command history r

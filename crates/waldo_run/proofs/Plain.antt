@@ -1,6 +1,6 @@
 -- Where nothing was altered the reply is the plain one.
 use Rattle.std.proofs.Common.{◌≡◌, ◌∙◌, refl, sym, ap, subst, ℕ, Bool, true, false, cond, List, [], arith}
-use Rattle.std.specs.Prelude.{⊤, Option, Some, None, Result, Ok, Err}
+use Rattle.std.specs.Prelude.{⊤, IfSome, Option, Some, None, Result, Ok, Err}
 use Rattle.row_source.specs.Input.{Reading}
 use Rattle.row_source.specs.Input.Reading.{Untouched, Whole, Long, Broken}
 use Rattle.row_source.specs.declared.faults.RowFault.{RowFault}
@@ -8,7 +8,7 @@ use Rattle.report_lines.specs.declared.lines.Line.{Line}
 use Rattle.table_schema.specs.declared.rows.Row.{Row}
 use Rattle.schedule_play.specs.History.{Done, opened_in}
 use Rattle.schedule_play.specs.Laws.{AskedPlainly, EndsPlainly, PlainlyPlayed}
-use Rattle.schedule_play.specs.Plain.{ArePlain, ArePlainOn, plain_lines, plainly}
+use Rattle.schedule_play.specs.Plain.{ArePlain, plain_lines, plainly}
 use Rattle.schedule_play.specs.Stages.{Stage, first_stage, next_stage, played}
 use Rattle.schedule_play.specs.Tasks.{IsSetting, Setting, Task, asking}
 use Rattle.schedule_play.specs.declared.style.Style.{Style}
@@ -25,7 +25,7 @@ all_plain : (unaltered : ℕ → Type 0) (s : Setting) (style : Style) (stage : 
 all_plain unaltered s style stage [] still plain = tt
 all_plain unaltered s style stage (d ∷ ds) still plain = ((λ _. plain.0 (still _)), on (next_stage s style stage d.step d.pair) plain.1)
   where
-    on : (o : Option Stage) → ArePlainOn unaltered s style o ds → ArePlainOn (λ actor. ⊤) s style o ds
+    on : (o : Option Stage) → IfSome o (λ (next : Stage). ArePlain unaltered s style next ds) → IfSome o (λ (next : Stage). ArePlain (λ actor. ⊤) s style next ds)
     on None p = tt
     on (Some next) p = all_plain unaltered s style next ds still p
 
