@@ -1,12 +1,56 @@
 #!/usr/bin/env bash
-# Runs each command of this folder's page and compares what it prints with the page.
+# Runs each command of this folder's page and of the guide, and compares text and status with what the page says. A block of
+# `sh` is a command and the block of `text` behind it is what it prints; the status is 0 unless the words before say
+# "Status 5.", and so on. Then it compares what the launcher says of refused words with the guide's table.
 set -u
 cd "$(dirname "$0")/.." || exit 2
 failed=0
-while IFS='|' read -r _ question command answer _; do
-  command=$(sed 's/^ *`//; s/` *$//' <<<"$command")
-  wanted=$(sed 's/^ *`//; s/`.*$//' <<<"$answer")
-  printed=$(eval "$command" 2>/dev/null)
-  [ "$printed" = "$wanted" ] || { echo "$question: wanted '$wanted', printed '$printed'"; failed=1; }
-done < <(grep '^| .*`./waldo ask' examples/README.md)
+checked=0
+
+differs() { # what, wanted, printed
+  [ "$2" = "$3" ] && return
+  printf '%s\n  wanted  %s\n  printed %s\n' "$1" "${2//$'\n'/$'\n'          }" "${3//$'\n'/$'\n'          }"
+  failed=1
+}
+
+# One command with its answer, which ends with the status so that line feeds at its end are compared too.
+check() { # command, status, text
+  differs "$1" "$3(status $2)" "$(bash -c "$1" 2>/dev/null; echo "(status $?)")"
+  checked=$((checked + 1))
+}
+
+check_page() {
+  local line state=prose command='' text='' status=0
+  while IFS= read -r line; do
+    case $state:$line in
+      prose:'```sh') state=command command='' ;;
+      command:'```') state=between ;;
+      command:*) command+=$line$'\n' ;;
+      between:'```text') state=text text='' ;;
+      between:'```'*) differs "$1: $command" "a block of text" "$line"; state=prose ;;
+      text:'```') check "$command" "$status" "$text"; state=prose status=0 ;;
+      text:*) text+=$line$'\n' ;;
+      prose:*'Status '[0-9].*) status=${line#*Status }; status=${status%%.*} ;;
+    esac
+  done <"$1"
+  differs "$1" "an answer to each command" "$([ $state = prose ] && echo "an answer to each command")"
+}
+
+check_launcher() {
+  local words line
+  while IFS='`' read -r _ words _ line _; do
+    differs "./waldo $words" "$line" "$(bash -c "./waldo $words" 2>&1 >/dev/null </dev/null)"
+    checked=$((checked + 1))
+  done < <(sed -n '/^| words | the line |/,/^$/p' docs/guide.md | grep '`waldo: ')
+}
+
+check_page examples/README.md
+check_page docs/guide.md
+check_launcher
+# Each block of `sh` and each line of the table was compared, and there are some.
+calls=$(cat examples/README.md docs/guide.md | grep -c '^```sh$')
+rows=$(sed -n '/^| words | the line |/,/^$/p' docs/guide.md | grep -c '`waldo: ')
+differs "commands checked" "$((calls + rows))" "$checked"
+[ "$checked" -gt 30 ] || { echo "only $checked commands were found"; failed=1; }
+[ $failed -eq 0 ] && echo "$checked commands print what the pages say"
 exit $failed
