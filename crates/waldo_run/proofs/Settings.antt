@@ -1,0 +1,50 @@
+-- The setting of a command is legal.
+use Rattle.std.proofs.Common.{◌≡◌, ◌∙◌, refl, sym, ap, subst, ℕ, ◌*◌, ◌<◌, ◌≤◌, List, All, length, map, max, arith}
+use Rattle.std.specs.Prelude.{Result, Ok, Err}
+use Rattle.std.proofs.lemmas.Nat.{mul-le}
+use Rattle.query_plan.specs.Query.{AreWidthsOf, Suits}
+use Rattle.query_plan.specs.declared.query.Query.{Query}
+use Rattle.table_schema.specs.Widths.{Fits, Holds, cells_of, code_length, column_bits}
+use Rattle.table_schema.specs.declared.rows.Row.{Row}
+use Rattle.table_schema.specs.declared.schema.Column.{Column}
+use Rattle.table_schema.specs.declared.widths.Widths.{Widths}
+use Rattle.schedule_play.specs.Tasks.{IsSetting, Setting, room_of}
+use Rattle.waldo_words.specs.Legal.{IsCommon, IsLegal, SuitsColumns}
+use Rattle.waldo_words.specs.declared.command.Common.{Common}
+use Rattle.waldo_words.specs.declared.command.Command.{Command}
+use Rattle.waldo_words.specs.declared.command.Command.TheVariants as commands
+use Rattle.waldo_run.specs.Tasks.{AreWidthsIn, common_in, setting_of, task_over}
+
+-- room for the rows is no more than the capacity
+fits_less : (bits : List ℕ) (capacity n : ℕ) → Fits bits capacity → n ≤ capacity → Fits bits (max 1 n)
+fits_less bits capacity n fits few =
+    let some : 1 ≤ capacity = fits.0 in
+    let most : max 1 n ≤ capacity = omega (arith, some, few) in
+    let cells : max 1 n * code_length bits ≤ capacity * code_length bits = mul-le (max 1 n) (code_length bits) capacity (code_length bits) most (omega arith) in
+    (omega arith, omega (arith, most, fits.1), omega (arith, cells, fits.2))
+
+pub is_setting : (c : Common) (w : Widths) (rows : List Row) → IsCommon c → AreWidthsOf c.schema w → All (Holds w) rows → length rows ≤ c.capacity → IsSetting w (setting_of c rows)
+is_setting c w rows common of held few = record {
+  held = held;
+  fits = subst (λ (bits : List ℕ). Fits bits (max 1 (length rows))) (sym of.bits) (fits_less (map (λ (k : Column). k.bits) c.schema) c.capacity (length rows) common.fits few);
+  places = common.places;
+  suits = λ n d lt. common.suits n d lt w of;
+}
+
+-- what holds of the options of any command
+pub common_legal : (command : Command) → IsLegal command → let c = common_in command in IsCommon c
+common_legal (commands.Ask c) legal = legal
+common_legal (commands.Replay c schedule) legal = legal.common
+common_legal (commands.Race c writers askers rounds) legal = legal.common
+common_legal (commands.Make c number rows) legal = legal.common
+common_legal (commands.Trace c) legal = legal
+common_legal (commands.Tamper c shifts) legal = legal.common
+
+pub task_legal : (command : Command) (w : Widths) (rows : List Row) → IsLegal command → AreWidthsIn command w → All (Holds w) rows
+    → (let c = common_in command in length rows ≤ c.capacity) → IsSetting w (task_over command rows).setting
+task_legal (commands.Ask c) w rows legal of held few = is_setting c w rows legal of held few
+task_legal (commands.Replay c schedule) w rows legal of held few = is_setting c w rows legal.common of held few
+task_legal (commands.Race c writers askers rounds) w rows legal of held few = is_setting c w rows legal.common of held few
+task_legal (commands.Make c number count) w rows legal of held few = is_setting c w rows legal.common of held few
+task_legal (commands.Trace c) w rows legal of held few = is_setting c w rows legal of held few
+task_legal (commands.Tamper c shifts) w rows legal of held few = is_setting c w rows legal.common of held few
