@@ -51,7 +51,8 @@ all_back s =
 abbrev pairs_of : Setting → ℕ → OpenedPair
 pairs_of s q = plainly s 0 (with_fixes (all_entries s) (all_numbers s) (length s.rows) other_actors (Agreed (length s.rows)) (q ∷ other_rounds) [] false) (steps.Answer 0 q)
 
-opened_plainly : (s : Setting) (q : ℕ) (query : Query) → slice_get s.queries q ≡ Some query → pairs_of s q ≡ plain_pair (all_entries s) (length s.rows) query (derive_of s.master 2 0 q)
+opened_plainly : (s : Setting) (q : ℕ) (query : Query) → slice_get s.queries q ≡ Some query
+    → pairs_of s q ≡ plain_pair (all_entries s) (length s.rows) query (derive_of s.master 2 0 q)
 opened_plainly s q query query_is = rw query_is refl
 
 module _ (known : PlainIsSmall) (w : Widths) (s : Setting) (legal : IsSetting w s) where
@@ -89,4 +90,5 @@ pub asked_plainly : PlainIsSmall → AskedPlainly
 asked_plainly known w s legal =
     let from_none : (k : ℕ) → 0 + k ≡ k = λ k. omega arith in
     let plain_ones = all_plain known w s legal s.queries 0 (λ k. ap (slice_get s.queries) (from_none k)) in
-    ends_plainly (asked_lines s (pairs_of s) 0 s.queries) (plain_lines s.rows 0 s.queries) (some_refused s (pairs_of s) 0 s.queries) (played (plainly s) (asking s)) plain_ones.0 plain_ones.1 (in_order s (plainly s) (pairs_of s) (λ q lines altered. refl))
+    ends_plainly (asked_lines s (pairs_of s) 0 s.queries) (plain_lines s.rows 0 s.queries) (some_refused s (pairs_of s) 0 s.queries)
+    (played (plainly s) (asking s)) plain_ones.0 plain_ones.1 (in_order s (plainly s) (pairs_of s) (λ q lines altered. refl))
