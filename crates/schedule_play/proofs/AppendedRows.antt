@@ -1,5 +1,5 @@
 -- Rows that actor 0 appends one after another.
-use Rattle.std.proofs.Common.{◌≡◌, ◌∙◌, refl, sym, ap, ℕ, zero, suc, ◌+◌, ◌*◌, ◌<◌, ◌≤◌, Bool, true, false, ltb, Some, None, List, [], ◌∷◌, ◌++◌, length, slice_get, max, arith, append_assoc, append-nil, length-append}
+use Rattle.std.proofs.Common.{◌≡◌, ◌∙◌, refl, sym, ap, ℕ, suc, ◌+◌, ◌*◌, ◌<◌, Bool, true, false, ltb, Some, None, List, [], ◌∷◌, ◌++◌, length, slice_get, max, arith, append_assoc, append-nil, length-append}
 use Rattle.std.proofs.lemmas.Bool.{lt-ltb}
 use Rattle.std.specs.List.{flat_map, range_with_len}
 use Rattle.list_facts.specs.Count.{has}

@@ -1,5 +1,5 @@
 -- The same queries where nothing is altered: each line is the plain answer.
-use Rattle.std.proofs.Common.{◌≡◌, ◌∙◌, refl, sym, ap, ℕ, zero, suc, ◌+◌, ◌*◌, ◌<◌, ◌≤◌, ◌^◌, Bool, true, false, ◌||◌, Some, Result, Ok, Err, List, [], ◌∷◌, length, slice_get, map, max, take, arith, eqb, eq-eqb}
+use Rattle.std.proofs.Common.{◌≡◌, ◌∙◌, refl, ap, ℕ, suc, ◌+◌, ◌<◌, ◌≤◌, ◌^◌, Bool, false, ◌||◌, Some, Result, Ok, Err, List, [], ◌∷◌, length, slice_get, map, max, take, arith, eq-eqb}
 use Rattle.std.proofs.lemmas.Bool.{lt-ltb}
 use Rattle.std.proofs.lemmas.List.{take_all}
 use Rattle.onehot_column.specs.Code.{word_of}
@@ -51,7 +51,8 @@ all_back s =
 abbrev pairs_of : Setting → ℕ → OpenedPair
 pairs_of s q = plainly s 0 (with_fixes (all_entries s) (all_numbers s) (length s.rows) other_actors (Agreed (length s.rows)) (q ∷ other_rounds) [] false) (steps.Answer 0 q)
 
-opened_plainly : (s : Setting) (q : ℕ) (query : Query) → slice_get s.queries q ≡ Some query → pairs_of s q ≡ plain_pair (all_entries s) (length s.rows) query (derive_of s.master 2 0 q)
+opened_plainly : (s : Setting) (q : ℕ) (query : Query) → slice_get s.queries q ≡ Some query
+    → pairs_of s q ≡ plain_pair (all_entries s) (length s.rows) query (derive_of s.master 2 0 q)
 opened_plainly s q query query_is = rw query_is refl
 
 module _ (known : PlainIsSmall) (w : Widths) (s : Setting) (legal : IsSetting w s) where
@@ -75,10 +76,11 @@ module _ (known : PlainIsSmall) (w : Widths) (s : Setting) (legal : IsSetting w 
       let others_at : (k : ℕ) → slice_get s.queries (q + 1 + k) ≡ slice_get rest k =
       λ k. let on : q + 1 + k ≡ q + suc k = omega arith in ap (slice_get s.queries) on ∙ rest_is (suc k) in
       let v = verdict q query (ap (slice_get s.queries) here ∙ rest_is 0) in
-      let behind = all_plain rest (q + 1) others_at in
-      (ap (λ (c : Result ℕ Altered). checked_line (length s.rows) q query c ∷ asked_lines s (pairs_of s) (q + 1) rest) v
-      ∙ ap (λ (l : List Line). lines.Answer (Single q) (length s.rows) query.aggregate (word_of (plain query s.rows)) ∷ l) behind.0,
-      ap (λ (c : Result ℕ Altered). is_refused c || some_refused s (pairs_of s) (q + 1) rest) v ∙ behind.1)
+      let behind = all_plain rest (q + 1) others_at in (
+        ap (λ (c : Result ℕ Altered). checked_line (length s.rows) q query c ∷ asked_lines s (pairs_of s) (q + 1) rest) v
+            ∙ ap (λ (l : List Line). lines.Answer (Single q) (length s.rows) query.aggregate (word_of (plain query s.rows)) ∷ l) behind.0,
+        ap (λ (c : Result ℕ Altered). is_refused c || some_refused s (pairs_of s) (q + 1) rest) v ∙ behind.1,
+      )
 
 ends_plainly : (report report' : List Line) (altered : Bool) (end : Result Stage ℕ) → report ≡ report' → altered ≡ false → EndsIn report altered end → EndsPlainly report' end
 ends_plainly report report' altered (Ok stage) same none ends = (ends.0 ∙ same, ends.1 ∙ none)
@@ -88,4 +90,5 @@ pub asked_plainly : PlainIsSmall → AskedPlainly
 asked_plainly known w s legal =
     let from_none : (k : ℕ) → 0 + k ≡ k = λ k. omega arith in
     let plain_ones = all_plain known w s legal s.queries 0 (λ k. ap (slice_get s.queries) (from_none k)) in
-    ends_plainly (asked_lines s (pairs_of s) 0 s.queries) (plain_lines s.rows 0 s.queries) (some_refused s (pairs_of s) 0 s.queries) (played (plainly s) (asking s)) plain_ones.0 plain_ones.1 (in_order s (plainly s) (pairs_of s) (λ q lines altered. refl))
+    ends_plainly (asked_lines s (pairs_of s) 0 s.queries) (plain_lines s.rows 0 s.queries) (some_refused s (pairs_of s) 0 s.queries)
+    (played (plainly s) (asking s)) plain_ones.0 plain_ones.1 (in_order s (plainly s) (pairs_of s) (λ q lines altered. refl))

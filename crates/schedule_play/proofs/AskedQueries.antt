@@ -1,5 +1,5 @@
 -- Queries that actor 0 asks one after another over all rows.
-use Rattle.std.proofs.Common.{◌≡◌, ◌∙◌, refl, sym, ap, subst, ℕ, zero, suc, ◌+◌, ◌*◌, Bool, true, false, ◌||◌, ltb, Some, None, Option, Result, Ok, Err, List, [], ◌∷◌, ◌++◌, length, slice_get, map, min, arith, append_assoc, append-nil}
+use Rattle.std.proofs.Common.{◌≡◌, ◌∙◌, refl, sym, ap, subst, ℕ, suc, ◌+◌, ◌*◌, Bool, true, false, ◌||◌, Some, None, Result, Ok, Err, List, [], ◌∷◌, ◌++◌, length, slice_get, map, min, arith, append_assoc, append-nil}
 use Rattle.std.specs.Prelude.{⊤}
 use Rattle.std.proofs.lemmas.Bool.{le-ltb}
 use Rattle.std.specs.List.{flat_map, range_with_len}
@@ -13,12 +13,12 @@ use Rattle.server_rounds.specs.declared.opened.OpenedPair.{OpenedPair}
 use Rattle.table_schema.specs.declared.rows.Row.{Row}
 use Rattle.weighted_check.specs.Check.{checked}
 use Rattle.weighted_check.specs.declared.Altered.{Altered}
-use Rattle.waldo_core.specs.Core.{Actor, Core, Fixes, fresh, prefix}
+use Rattle.waldo_core.specs.Core.{Actor, Fixes, fresh, prefix}
 use Rattle.waldo_core.specs.Core.Fixes.{Unfixed, First, Second, Agreed}
 use Rattle.waldo_core.specs.Step.{reply_of}
 use Rattle.waldo_words.specs.declared.schedule.Step.{Step}
 use Rattle.waldo_words.specs.declared.schedule.Step.TheVariants as steps
-use Rattle.schedule_play.specs.History.{Done, opened_in}
+use Rattle.schedule_play.specs.History.{opened_in}
 use Rattle.schedule_play.specs.Laws.{AskedInOrder, EndsInLines, asked_lines, checked_line, pair_of_query}
 use Rattle.schedule_play.specs.Stages.{Opening, Stage, go_on, next_stage, played, played_on, with_reply}
 use Rattle.schedule_play.specs.Tasks.{Setting, ask_steps, asking}
@@ -71,8 +71,8 @@ one_step s opens t stage next x xs e = ap (go_on (λ (after : Stage). played_on 
 
 -- ---- the four steps of a query
 
-module _ (s : Setting) (opens : Opening) (order : List (Row × Seed)) (j : List ℕ) (n : ℕ) (others : List Actor) (rounds : List ℕ) (lines : List Line) (altered : Bool) (t : ℕ) (xs : List Step)
-    (whole : prefix j ≡ n) where
+module _ (s : Setting) (opens : Opening) (order : List (Row × Seed)) (j : List ℕ) (n : ℕ) (others : List Actor) (rounds : List ℕ)
+    (lines : List Line) (altered : Bool) (t : ℕ) (xs : List Step) (whole : prefix j ≡ n) where
   first_from : (fixes : Fixes) → IsIdle fixes
       → played_on s Queries opens t (with_fixes order j n others fixes rounds lines altered) (steps.Fix 0 ∷ xs)
       ≡ played_on s Queries opens (t + 1) (with_fixes order j n others (First n) rounds lines altered) xs
@@ -97,14 +97,16 @@ module _ (s : Setting) (order : List (Row × Seed)) (j : List ℕ) (n : ℕ) (ot
       with_reply s Queries stage (steps.Answer 0 q) (stage.core, reply_of n verdict)
       ≡ with_fixes order j n others (Agreed n) ((q + 1) ∷ rounds) (lines ++ checked_line n q query verdict ∷ []) (altered || is_refused verdict)
   answer_line lines altered q query (Ok total) query_is = rw query_is refl
-  answer_line lines altered q query (Err pair) query_is = rw query_is refl
+  answer_line lines altered q query (Err pair) query_is = refl
 
   answers : (lines : List Line) (altered : Bool) (q : ℕ) (query : Query) (pair : OpenedPair) → slice_get s.queries q ≡ Some query
       → next_stage s Queries (with_fixes order j n others (Agreed n) (q ∷ rounds) lines altered) (steps.Answer 0 q) pair
-      ≡ Some (with_fixes order j n others (Agreed n) ((q + 1) ∷ rounds) (lines ++ checked_line n q query (check_of s q query pair) ∷ []) (altered || is_refused (check_of s q query pair)))
+      ≡ Some (with_fixes order j n others (Agreed n) ((q + 1) ∷ rounds) (lines ++ checked_line n q query (check_of s q query pair) ∷ [])
+      (altered || is_refused (check_of s q query pair)))
   answers lines altered q query pair query_is =
       let stage = with_fixes order j n others (Agreed n) (q ∷ rounds) lines altered in
-      let replied : next_stage s Queries stage (steps.Answer 0 q) pair ≡ Some (with_reply s Queries stage (steps.Answer 0 q) (stage.core, reply_of n (check_of s q query pair))) = rw query_is refl in
+      let replied : next_stage s Queries stage (steps.Answer 0 q) pair
+      ≡ Some (with_reply s Queries stage (steps.Answer 0 q) (stage.core, reply_of n (check_of s q query pair))) = rw query_is refl in
       replied ∙ ap Some (answer_line lines altered q query (check_of s q query pair) query_is)
 
 -- ---- query by query
@@ -115,7 +117,8 @@ AreOpened s opens pairs order j others rounds =
     let n = length s.rows in
     (q : ℕ) (lines : List Line) (altered : Bool) → opens (4 * n + 4 * q + 3) (with_fixes order j n others (Agreed n) (q ∷ rounds) lines altered) (steps.Answer 0 q) ≡ pairs q
 
-ends_same : (report report' : List Line) (altered altered' : Bool) (end end' : Result Stage ℕ) → report ≡ report' → altered ≡ altered' → end ≡ end' → EndsIn report altered end → EndsIn report' altered' end'
+ends_same : (report report' : List Line) (altered altered' : Bool) (end end' : Result Stage ℕ) → report ≡ report' → altered ≡ altered' → end ≡ end'
+    → EndsIn report altered end → EndsIn report' altered' end'
 ends_same report report' altered altered' end end' same_report same_altered same_end ends = rw (← same_report, ← same_altered, ← same_end) ends
 
 module _ (s : Setting) (opens : Opening) (pairs : ℕ → OpenedPair) (order : List (Row × Seed)) (j : List ℕ) (others : List Actor) (rounds : List ℕ)

@@ -45,10 +45,10 @@ unopened capacity core (events.Answer number q seed) p r (Some actor) other = ab
 -- an event with what it opened, and with the plain answer
 event_plain : (capacity : ℕ) (core : Core) (event : Event) (pair : OpenedPair) → IsPlain core event pair
     → step capacity core event pair ≡ step capacity core event (plain_of core (Some event))
-event_plain capacity core (events.Draw number row seed) pair plain = unopened capacity core (events.Draw number row seed) pair _ _ (λ a b c e. cc)
-event_plain capacity core (events.Place number k) pair plain = unopened capacity core (events.Place number k) pair _ _ (λ a b c e. cc)
-event_plain capacity core (events.Look number k) pair plain = unopened capacity core (events.Look number k) pair _ _ (λ a b c e. cc)
-event_plain capacity core (events.Fix number) pair plain = unopened capacity core (events.Fix number) pair _ _ (λ a b c e. cc)
+event_plain capacity core (events.Draw number row seed) pair plain = unopened capacity core (events.Draw number row seed) pair (plain_of core (Some (events.Draw number row seed))) _ (λ a b c e. cc)
+event_plain capacity core (events.Place number k) pair plain = unopened capacity core (events.Place number k) pair (plain_of core (Some (events.Place number k))) _ (λ a b c e. cc)
+event_plain capacity core (events.Look number k) pair plain = unopened capacity core (events.Look number k) pair (plain_of core (Some (events.Look number k))) _ (λ a b c e. cc)
+event_plain capacity core (events.Fix number) pair plain = unopened capacity core (events.Fix number) pair (plain_of core (Some (events.Fix number))) _ (λ a b c e. cc)
 event_plain capacity core (events.Answer number q seed) pair plain = answered capacity core number q seed pair (slice_get core.actors number) plain
 
 opened_plain : (s : Setting) (stage : Stage) (event : Option Event) (pair : OpenedPair) → IsPlainOf stage event pair
@@ -73,7 +73,8 @@ same w s style opens t stage [] [] gives history plain = refl
 same w s style opens t stage [] (d ∷ ds) gives history plain = absurd history
 same w s style opens t stage (x ∷ xs) [] gives history plain =
     ap (go_on (rest_of w s style opens t xs) t) (history (opens t stage x)) ∙ sym (ap (go_on (rest_of w s style (plainly s) t xs) t) (history (plainly s t stage x)))
-same w s style opens t stage (x ∷ xs) (d ∷ ds) gives history plain = by (next_stage s style stage x d.pair) refl
+same w s style opens t stage (x ∷ xs) (d ∷ ds) gives history plain =
+    by (next_stage s style stage x d.pair) refl (λ next on clear. same w s style opens (t + 1) next xs ds later on clear)
   where
     here : opens t stage x ≡ d.pair
     here = let e : t + 0 ≡ t = omega arith in rw e at gives 0 stage x
@@ -90,16 +91,16 @@ same w s style opens t stage (x ∷ xs) (d ∷ ds) gives history plain = by (nex
     plain_on : IfSome (next_stage s style stage x d.pair) (λ (next : Stage). ArePlain (λ actor. ⊤) s style next ds)
     plain_on = subst (λ (y : Step). IfSome (next_stage s style stage y d.pair) (λ (next : Stage). ArePlain (λ actor. ⊤) s style next ds)) history.0 plain.1
 
-    by : (o : Option Stage) → next_stage s style stage x d.pair ≡ o → played_on s style opens t stage (x ∷ xs) ≡ played_on s style (plainly s) t stage (x ∷ xs)
-    by None e = absurd (subst (λ (o : Option Stage). IsSomeAnd o (λ (next : Stage). IsHistory w s style next xs ds)) e goes)
-    by (Some next) e =
+    by : (o : Option Stage) → next_stage s style stage x d.pair ≡ o
+        → ((next : Stage) → IsHistory w s style next xs ds → ArePlain (λ actor. ⊤) s style next ds → played_on s style opens (t + 1) next xs ≡ played_on s style (plainly s) (t + 1) next xs)
+        → played_on s style opens t stage (x ∷ xs) ≡ played_on s style (plainly s) t stage (x ∷ xs)
+    by None e rest = absurd (subst (λ (o : Option Stage). IsSomeAnd o (λ (next : Stage). IsHistory w s style next xs ds)) e goes)
+    by (Some next) e rest =
         let left : next_stage s style stage x (opens t stage x) ≡ Some next = ap (next_stage s style stage x) here ∙ e in
         let right : next_stage s style stage x (plainly s t stage x) ≡ Some next = sym (step_plain s style stage x d.pair t plain_here) ∙ e in
         let on : IsHistory w s style next xs ds = subst (λ (o : Option Stage). IsSomeAnd o (λ (next : Stage). IsHistory w s style next xs ds)) e goes in
         let clear : ArePlain (λ actor. ⊤) s style next ds = subst (λ (o : Option Stage). IfSome o (λ (next : Stage). ArePlain (λ actor. ⊤) s style next ds)) e plain_on in
-        ap (go_on (rest_of w s style opens t xs) t) left
-        ∙ same w s style opens (t + 1) next xs ds later on clear
-        ∙ sym (ap (go_on (rest_of w s style (plainly s) t xs) t) right)
+        ap (go_on (rest_of w s style opens t xs) t) left ∙ rest next on clear ∙ sym (ap (go_on (rest_of w s style (plainly s) t xs) t) right)
 
 pub plainly_played : (w : Widths) (task : Task) (history : List Done) → HasHistory w task history
     → ArePlain (λ actor. ⊤) task.setting task.style first_stage history → played (opened_in history) task ≡ played (plainly task.setting) task
