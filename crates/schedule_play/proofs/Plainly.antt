@@ -77,10 +77,10 @@ same w s style opens t stage (x ∷ xs) (d ∷ ds) gives history plain =
     by (next_stage s style stage x d.pair) refl (λ next on clear. same w s style opens (t + 1) next xs ds later on clear)
   where
     here : opens t stage x ≡ d.pair
-    here = let e : t + 0 ≡ t = omega arith in rw e at gives 0 stage x
+    here = let e : t + 0 ≡ t = omega arith in subst (λ (n : ℕ). opens n stage x ≡ d.pair) e (gives 0 stage x)
 
     later : (i : ℕ) (st : Stage) (y : Step) → opens (t + 1 + i) st y ≡ pair_at ds i
-    later i st y = let e : t + suc i ≡ t + 1 + i = omega arith in rw e at gives (suc i) st y
+    later i st y = let e : t + suc i ≡ t + 1 + i = omega arith in subst (λ (n : ℕ). opens n st y ≡ pair_at ds i) e (gives (suc i) st y)
 
     goes : IsSomeAnd (next_stage s style stage x d.pair) (λ (next : Stage). IsHistory w s style next xs ds)
     goes = history.2
@@ -105,4 +105,4 @@ same w s style opens t stage (x ∷ xs) (d ∷ ds) gives history plain =
 pub plainly_played : (w : Widths) (task : Task) (history : List Done) → HasHistory w task history
     → ArePlain (λ actor. ⊤) task.setting task.style first_stage history → played (opened_in history) task ≡ played (plainly task.setting) task
 plainly_played w task history has plain =
-    same w task.setting task.style (opened_in history) 0 first_stage task.steps history (λ i st x. let e : 0 + i ≡ i = omega arith in rw e refl) has plain
+    same w task.setting task.style (opened_in history) 0 first_stage task.steps history (λ i st x. let e : 0 + i ≡ i = omega arith in ap (pair_at history) e) has plain
