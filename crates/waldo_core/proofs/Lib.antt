@@ -1,0 +1,5 @@
+mod Grown
+mod Legal
+mod OpenDraws
+mod Prefixes
+mod Stays
