@@ -1,5 +1,5 @@
-mod Grown
-mod Legal
-mod OpenDraws
-mod Prefixes
-mod Stays
+pub mod Grown
+pub mod Legal
+pub mod OpenDraws
+pub mod Prefixes
+pub mod Stays
