@@ -1,6 +1,6 @@
 -- What a step keeps of a legal core.
-use Rattle.std.proofs.Common.{◌≡◌, ◌≢◌, ◌∙◌, ⊎_elim, refl, sym, ap, subst, ℕ, zero, suc, ◌+◌, ◌<◌, ◌≤◌, Bool, true, false, List, [], ◌∷◌, ◌++◌, length, Some, slice_get, arith}
-use Rattle.std.proofs.lemmas.Bool.{cases_eq, false≢true}
+use Rattle.std.proofs.Common.{◌≡◌, ◌≢◌, ◌∙◌, ⊎_elim, refl, sym, ap, subst, ℕ, zero, suc, ◌<◌, ◌≤◌, true, false, List, [], length, Some, slice_get, arith}
+use Rattle.std.proofs.lemmas.Bool.{false≢true}
 use Rattle.std.proofs.lemmas.List.{length-set}
 use Rattle.std.proofs.lemmas.Option.{get_or_from_slice_get, none-some, slice_get_within}
 use Rattle.list_facts.specs.Count.{has, times}
@@ -8,7 +8,7 @@ use Rattle.list_facts.specs.Listed.{listed}
 use Rattle.list_facts.proofs.Listed.{get_or-listed, length-listed}
 use Rattle.waldo_core.specs.Core.{Actor, Core, Fixes, Open, empty_core, fresh, journal_of, prefix, with_actor}
 use Rattle.waldo_core.specs.Core.Fixes.{Unfixed, First, Second, Agreed}
-use Rattle.waldo_core.specs.Legal.{AreFixes, HasOpen, IsActor, IsLegal, IsOpen}
+use Rattle.waldo_core.specs.Legal.{AreFixes, HasOpen, IsActor, IsLegal}
 use Rattle.waldo_core.proofs.OpenDraws.{All-from_get, All-set_but, HasDraw, open_after, open_here, open_there}
 
 -- ---- what stays of an actor

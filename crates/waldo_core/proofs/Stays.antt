@@ -18,7 +18,7 @@ use Rattle.waldo_core.specs.declared.events.Event.TheVariants as events
 use Rattle.waldo_core.specs.declared.events.Reply.{Reply}
 use Rattle.waldo_core.specs.declared.events.Reply.TheVariants as replies
 use Rattle.waldo_core.proofs.Grown.{Grown, grown_more, grown_same, placed_there}
-use Rattle.waldo_core.proofs.Legal.{Later, Becomes, actor_stays, becomes_legal, empty_legal}
+use Rattle.waldo_core.proofs.Legal.{Later, actor_stays, becomes_legal, empty_legal}
 use Rattle.waldo_core.proofs.OpenDraws.{All-get, HasDraw, open_of, open_own}
 use Rattle.waldo_core.proofs.Prefixes.{prefix_grows, prefix_most}
 
