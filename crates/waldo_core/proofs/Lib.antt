@@ -1,0 +1,5 @@
+pub mod Grown
+pub mod Legal
+pub mod OpenDraws
+pub mod Prefixes
+pub mod Stays
