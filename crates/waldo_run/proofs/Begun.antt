@@ -1,6 +1,6 @@
 -- What was carried and answered over the rows of a command, or over the first fault of its input.
 use Rattle.std.proofs.Common.{◌≡◌, ◌≢◌, ◌∙◌, refl, sym, ap, subst, ℕ, ◌⊎◌, inl, inr, true, false, Bool, List, [], ◌∷◌, arith}
-use Rattle.std.specs.Prelude.{⊤, IsSomeAnd, Option, Some, None, Result, Ok, Err, OnErr, IfOk, MatchBool}
+use Rattle.std.specs.Prelude.{⊤, IsSomeAnd, Option, Some, None, Result, Ok, Err, OnErr, IfOk, IsErr, MatchBool}
 use Rattle.ring128.specs.declared.memory.Memory.{Memory}
 use Rattle.row_source.specs.Input.{Reading, Reads, most_bytes}
 use Rattle.row_source.specs.Input.Reading.{Untouched, Whole, Long, Broken}
@@ -48,6 +48,13 @@ fault_answers command w of fault rows carried unaltered none is (Ok reply) said 
       is = said.0 ∙ sym (ap (reply_over (checked_answer []) command) e);
       accepted = λ still seven. refusal_status fault (sym (ap (λ (r : Reply). r.status) said.0) ∙ seven);
     }
+
+-- nothing was done for want of memory
+pub none_answers : (command : Command) (w : Widths) → AreWidthsIn command w → (rows : Result (List Row) RowFault) (carried : List Done → Type 0) (unaltered : ℕ → Type 0)
+    → carried [] → (result : Result Reply Memory) → IsErr result → Answers command rows carried unaltered result
+none_answers command w of rows carried unaltered none (Err memory) err =
+    record { history = []; sent = none; begun = none_begun command w of rows; asked = tt; is = tt; accepted = tt }
+none_answers command w of rows carried unaltered none (Ok reply) err = absurd err
 
 -- rows
 pub rows_answers : (command : Command) (rows : List Row) (r : Result (List Row) RowFault) (carried : List Done → Type 0) (unaltered : ℕ → Type 0) (history : List Done)
@@ -177,20 +184,21 @@ long_replies command source carried unaltered reply r reads none e = record {
 }
 
 -- all messages of steps are the first ones of them
-all_begun : (w : Widths) (s : Setting) (style : Style) (stage : Stage) (xs : List Step) (ds : List Done) → IsHistory w s style stage xs ds → BreaksFrom w s style stage xs ds
+pub all_begun : (w : Widths) (s : Setting) (style : Style) (stage : Stage) (xs : List Step) (ds : List Done) → IsHistory w s style stage xs ds → BreaksFrom w s style stage xs ds
 all_begun w s style stage xs [] h = tt
 all_begun w s style stage [] (d ∷ ds) h = absurd h
-all_begun w s style stage (x ∷ xs) (d ∷ ds) h = (h.0, inl (h.1, on (next_stage s style stage x d.pair) h.2))
+all_begun w s style stage (x ∷ xs) (d ∷ ds) h = (h.0, inl (h.1, on (next_stage s style stage x d.pair) h.2 (λ next g. all_begun w s style next xs ds g)))
   where
-    on : (o : Option Stage) → IsSomeAnd o (λ (next : Stage). IsHistory w s style next xs ds) → IsSomeAnd o (λ (next : Stage). BreaksFrom w s style next xs ds)
-    on None g = absurd g
-    on (Some next) g = all_begun w s style next xs ds g
+    on : (o : Option Stage) → IsSomeAnd o (λ (next : Stage). IsHistory w s style next xs ds) → ((next : Stage) → IsHistory w s style next xs ds → BreaksFrom w s style next xs ds)
+        → IsSomeAnd o (λ (next : Stage). BreaksFrom w s style next xs ds)
+    on None g rest = absurd g
+    on (Some next) g rest = rest next g
 
 begun_in : (unaltered : ℕ → Type 0) (command : Command) (history : List Done) (r : Result (List Row) RowFault) → AskedIn unaltered command history r → BegunIn command history r
 begun_in unaltered command history (Err fault) asked = asked
 begun_in unaltered command history (Ok rows) asked =
     let task = task_over command rows in
-    record { widths = asked.widths; of = asked.of; broken = all_begun asked.widths task.setting task.style _ task.steps history asked.history }
+    record { widths = asked.widths; of = asked.of; broken = all_begun asked.widths task.setting task.style _ task.steps history asked.done }
 
 begun_at : (unaltered : ℕ → Type 0) (command : Command) (history : List Done) (reading : Reading) → Asked unaltered (Ok command) history reading → BegunAt command history reading
 begun_at unaltered command history Untouched asked = begun_in unaltered command history (Ok (rows_made command)) asked
@@ -220,3 +228,7 @@ refused_words command fault known same other gave = elim gave [
   | inl memory ↦ absurd (other (sym same ∙ memory))
   | inr is ↦ is ∙ ap Err same
 ]
+
+pub on_err : {A E : Type 0} (r : Result A E) (P : Type 0) → P → OnErr r P
+on_err (Ok x) P p = tt
+on_err (Err e) P p = p

@@ -1,5 +1,5 @@
 -- Where nothing was altered the reply is the plain one.
-use Rattle.std.proofs.Common.{◌≡◌, ◌∙◌, refl, sym, ap, subst, ℕ, Bool, true, false, cond, List, [], arith}
+use Rattle.std.proofs.Common.{◌≡◌, ◌∙◌, refl, sym, ap, subst, ℕ, Bool, true, false, cond, List, [], ◌∷◌, arith}
 use Rattle.std.specs.Prelude.{⊤, IfSome, Option, Some, None, Result, Ok, Err}
 use Rattle.row_source.specs.Input.{Reading}
 use Rattle.row_source.specs.Input.Reading.{Untouched, Whole, Long, Broken}
@@ -23,11 +23,12 @@ use Rattle.waldo_run.specs.Tasks.{common_in, rows_in, rows_made, setting_of, tas
 all_plain : (unaltered : ℕ → Type 0) (s : Setting) (style : Style) (stage : Stage) (ds : List Done) → ((actor : ℕ) → unaltered actor)
     → ArePlain unaltered s style stage ds → ArePlain (λ actor. ⊤) s style stage ds
 all_plain unaltered s style stage [] still plain = tt
-all_plain unaltered s style stage (d ∷ ds) still plain = ((λ _. plain.0 (still _)), on (next_stage s style stage d.step d.pair) plain.1)
+all_plain unaltered s style stage (d ∷ ds) still plain = ((λ _. plain.0 (still _)), on (next_stage s style stage d.step d.pair) plain.1 (λ next p. all_plain unaltered s style next ds still p))
   where
-    on : (o : Option Stage) → IfSome o (λ (next : Stage). ArePlain unaltered s style next ds) → IfSome o (λ (next : Stage). ArePlain (λ actor. ⊤) s style next ds)
-    on None p = tt
-    on (Some next) p = all_plain unaltered s style next ds still p
+    on : (o : Option Stage) → IfSome o (λ (next : Stage). ArePlain unaltered s style next ds) → ((next : Stage) → ArePlain unaltered s style next ds → ArePlain (λ actor. ⊤) s style next ds)
+        → IfSome o (λ (next : Stage). ArePlain (λ actor. ⊤) s style next ds)
+    on None p rest = tt
+    on (Some next) p rest = rest next p
 
 -- rows that are asked plainly
 plain_end : (r : Result Stage ℕ) (lines : List Line) → EndsPlainly lines r → ended r ≡ record { status = 0; report = lines }
@@ -51,7 +52,7 @@ over_rows : PlainlyPlayed → AskedPlainly → (unaltered : ℕ → Type 0) → 
 over_rows same law unaltered still command history (Err fault) asked = refl
 over_rows same law unaltered still command history (Ok rows) asked =
     let task = task_over command rows in
-    ap ended (same asked.widths task history asked.history (all_plain unaltered task.setting task.style first_stage history still asked.plain))
+    ap ended (same asked.widths task history asked.done (all_plain unaltered task.setting task.style first_stage history still asked.plain))
     ∙ task_plain law command rows asked.widths asked.legal
 
 pub plain_reply_to : PlainlyPlayed → AskedPlainly → (unaltered : ℕ → Type 0) → ((actor : ℕ) → unaltered actor) → (command : Result Command WordFault) (history : List Done) (reading : Reading)

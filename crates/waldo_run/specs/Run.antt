@@ -36,7 +36,7 @@ pub record AskedOver (unaltered : ℕ → Type 0) (command : Command) (history :
   pub widths : Widths
   pub of : AreWidthsIn command widths
   pub legal : IsSetting widths (task_over command rows).setting
-  pub history : HasHistory widths (task_over command rows) history
+  pub done : HasHistory widths (task_over command rows) history
   pub plain : ArePlain unaltered (task_over command rows).setting (task_over command rows).style first_stage history
 
 -- the same where the rows may have a fault: then no step was done

@@ -1,5 +1,5 @@
 -- What the command words say to this program.
-use Rattle.std.specs.Prelude.{ℕ, ◌||◌, Bool, bytes_eq, if◌then◌else◌, ⊤, Result, Ok, Err, List, [], ◌∷◌, codes}
+use Rattle.std.specs.Prelude.{ℕ, ◌||◌, Bool, false, bytes_eq, if◌then◌else◌, ⊤, Result, Ok, Err, List, [], ◌∷◌, codes}
 use Rattle.waldo_words.specs.Words.{command_of}
 use Rattle.waldo_words.specs.declared.command.Command.{Command}
 use Rattle.waldo_words.specs.declared.command.Command.TheVariants as commands
@@ -20,10 +20,14 @@ only_built (Ok (commands.Race common writers askers rounds)) = Err (Word 0)
 only_built (Ok (commands.Trace common)) = Err (Word 0)
 only_built (Ok (commands.Tamper common shifts)) = Err (Word 0)
 
+-- the words begin with the name of a command that is not built yet
+abbrev pub begin_unbuilt : List (List ℕ) → Bool
+begin_unbuilt [] = false
+begin_unbuilt (word ∷ words) = is_unbuilt word
+
 -- the command that the words say, or why they are refused; a command that is not built yet is an unknown one, whatever stands behind it
-unfoldable pub command_in : List (List ℕ) → Result Command WordFault
-command_in [] = command_of []
-command_in (word ∷ words) = if is_unbuilt word then Err (Word 0) else only_built (command_of (word ∷ words))
+abbrev pub command_in : List (List ℕ) → Result Command WordFault
+command_in words = if begin_unbuilt words then Err (Word 0) else only_built (command_of words)
 
 -- a command that is built
 abbrev pub IsBuilt : Command → Type 0

@@ -208,8 +208,9 @@ pub fn run_still<R: Threads + Sync, S: Source, K: Sink, W: Wire>(
     ensures input { result ≡ 5 → IfSome (S.left source.old) (Refuses (command_in (map string_bytes words.now))) }
     ensures altered { result ≡ 7 → SomeRose W.alterations wires.old.items wires.new.items }
 {
-    schedule_play::laws::asked_plainly();
     schedule_play::laws::asked_in_order();
+    schedule_play::laws::asked_plainly();
+    schedule_play::laws::plainly_played();
     match reply_in(rt, alloc, words, source, wires) {
         Err(_) => 6,
         Ok(reply) => finish(alloc, &reply, sink),

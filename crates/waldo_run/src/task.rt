@@ -1,7 +1,8 @@
 //! What a command does once its rows are known.
 ghost use Rattle.std.specs.Prelude.{◌≡◌, ◌≢◌, ◌≤◌, All, IfOk, OnErr, Ok, length, List, ℕ};
 ghost use Rattle.schedule_play.specs.History.{Done};
-ghost use Rattle.schedule_play.specs.Plays.{seen};
+ghost use Rattle.schedule_play.specs.Plays.{Plays, seen};
+ghost use Rattle.schedule_play.specs.Tasks.{IsSetting};
 ghost use Rattle.schedule_play.specs.Wires.{RoseAt, WiresWent};
 ghost use Rattle.table_schema.specs.Widths.{Holds};
 ghost use Rattle.waldo_run.specs.Replies.{IsReplyOf, checked_answer};
@@ -46,6 +47,32 @@ fn reply_of(alloc: Global, played: Result<Played, PlayFault>) -> Result<Reply, M
     }
 }
 
+// The steps of a command over its rows.
+fn play<R: Threads + Sync, W: Wire>(
+    rt: &R,
+    alloc: Global,
+    command: &Command,
+    widths: &Widths,
+    rows: &[Row],
+    wires: &mut Vec<W>,
+) -> Result<Played, PlayFault>
+    requires legal { IsLegal command.now }
+    requires built { IsBuilt command.now }
+    requires setting { IsSetting widths.now (task_over command.now rows.now).setting }
+    requires wires { length wires.old.items ≡ 16 }
+    ensures wires { length wires.new.items ≡ 16 }
+    ensures plays { Plays widths.now (task_over command.now rows.now) (λ history. WiresWent W.told W.alterations W.passes history 0 wires.old.items wires.new.items) (λ actor. ¬ RoseAt W.alterations actor wires.old.items wires.new.items) result }
+{
+    match command {
+        Command::Ask(common) => ask(rt, alloc, &setting(common, widths, rows), wires),
+        Command::Make { common, .. } => ask(rt, alloc, &setting(common, widths, rows), wires),
+        Command::Replay { common, schedule } => {
+            replay(rt, alloc, &setting(common, widths, rows), schedule.as_slice(), wires)
+        }
+        Command::Race { .. } | Command::Trace(_) | Command::Tamper { .. } => unreachable!(),
+    }
+}
+
 /// The reply of a command to its rows: that of its steps, whose answers go over the wires. The only error is want of memory; the
 /// first messages of the steps may then have been carried.
 pub(crate) fn answer_rows<R: Threads + Sync, W: Wire>(
@@ -69,14 +96,6 @@ pub(crate) fn answer_rows<R: Threads + Sync, W: Wire>(
             × (reply ≡ checked_answer history (task_over command.now rows.now))
             × (((actor : ℕ) → ¬ RoseAt W.alterations actor wires.old.items wires.new.items) → reply.status ≢ 7)) }
 {
-    let played = match command {
-        Command::Ask(common) | Command::Make { common, .. } => {
-            ask(rt, alloc, &setting(common, widths, rows), wires)
-        }
-        Command::Replay { common, schedule } => {
-            replay(rt, alloc, &setting(common, widths, rows), schedule.as_slice(), wires)
-        }
-        Command::Race { .. } | Command::Trace(_) | Command::Tamper { .. } => unreachable!(),
-    };
+    let played = play(rt, alloc, command, widths, rows, wires);
     reply_of(alloc, played)
 }

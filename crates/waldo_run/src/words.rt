@@ -2,8 +2,9 @@
 ghost use Rattle.std.specs.Prelude.{◌≡◌, Ok, IfOk, map, string_bytes};
 ghost use Rattle.text_reading.specs.Reading.{Gives};
 ghost use Rattle.waldo_words.specs.Legal.{IsLegal};
+ghost use Rattle.waldo_words.specs.Words.{command_of};
 ghost use Rattle.waldo_words.specs.declared.faults.WordFault.TheVariants.{Memory};
-ghost use Rattle.waldo_run.specs.Words.{IsBuilt, command_in, is_unbuilt, only_built};
+ghost use Rattle.waldo_run.specs.Words.{IsBuilt, begin_unbuilt, command_in, is_unbuilt, only_built};
 
 use std::alloc::Global;
 use waldo_words::{Command, WordFault, read_words};
@@ -15,6 +16,16 @@ fn is_unbuilt(word: &str) -> bool
     word == "race" || word == "trace" || word == "tamper"
 }
 
+// Whether the words begin with such a name.
+fn begin_unbuilt(words: &[String]) -> bool
+    ensures { result ≡ begin_unbuilt (map string_bytes words.now) }
+{
+    match words {
+        [] => false,
+        [word, ..] => is_unbuilt(word.as_str()),
+    }
+}
+
 // A command that is built.
 fn only_built(command: Command) -> Result<Command, WordFault>
     requires { IsLegal command }
@@ -24,21 +35,32 @@ fn only_built(command: Command) -> Result<Command, WordFault>
 {
     match command {
         Command::Ask(_) | Command::Replay { .. } | Command::Make { .. } => Ok(command),
-        Command::Race { .. } | Command::Trace(_) | Command::Tamper { .. } => Err(WordFault::Word { index: 0 }),
+        Command::Race { .. } | Command::Trace(_) | Command::Tamper { .. } => {
+            Err(WordFault::Word { index: 0 })
+        }
+    }
+}
+
+// The command of any words, if it is built.
+fn read_built(alloc: Global, words: &[String]) -> Result<Command, WordFault>
+    ensures exact { Gives Memory (λ c. c) result (only_built (command_of (map string_bytes words.now))) }
+    ensures legal { IfOk result IsLegal }
+    ensures built { IfOk result IsBuilt }
+{
+    match read_words(alloc, words) {
+        Ok(command) => only_built(command),
+        Err(fault) => Err(fault),
     }
 }
 
 /// The command that the words say, or why they are refused. A command that is not built yet is an unknown one.
-#[tactic(auto, unfolding(crate::specs::Words::command_in))]
 pub(crate) fn read_command(alloc: Global, words: &[String]) -> Result<Command, WordFault>
     ensures exact { Gives Memory (λ c. c) result (command_in (map string_bytes words.now)) }
     ensures legal { IfOk result IsLegal }
     ensures built { IfOk result IsBuilt }
 {
-    if let [word, ..] = words {
-        if is_unbuilt(word.as_str()) {
-            return Err(WordFault::Word { index: 0 });
-        }
+    if begin_unbuilt(words) {
+        return Err(WordFault::Word { index: 0 });
     }
-    only_built(read_words(alloc, words)?)
+    read_built(alloc, words)
 }
