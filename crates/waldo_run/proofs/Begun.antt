@@ -1,5 +1,5 @@
 -- What was carried and answered over the rows of a command, or over the first fault of its input.
-use Rattle.std.proofs.Common.{◌≡◌, ◌≢◌, ◌∙◌, refl, sym, ap, subst, ℕ, ◌⊎◌, inl, inr, true, false, Bool, List, [], ◌∷◌, arith}
+use Rattle.std.proofs.Common.{rules, ◌≡◌, ◌≢◌, ◌∙◌, refl, sym, ap, subst, ℕ, ◌⊎◌, inl, inr, true, false, Bool, List, [], ◌∷◌, arith}
 use Rattle.std.specs.Prelude.{⊤, IsSomeAnd, Option, Some, None, Result, Ok, Err, OnErr, IfOk, IsErr, MatchBool}
 use Rattle.ring128.specs.declared.memory.Memory.{Memory}
 use Rattle.row_source.specs.Input.{Reading, Reads, most_bytes}
@@ -54,7 +54,7 @@ pub none_answers : (command : Command) (w : Widths) → AreWidthsIn command w �
     → carried [] → (result : Result Reply Memory) → IsErr result → Answers command rows carried unaltered result
 none_answers command w of rows carried unaltered none (Err memory) err =
     record { history = []; sent = none; begun = none_begun command w of rows; asked = tt; is = tt; accepted = tt }
-none_answers command w of rows carried unaltered none (Ok reply) err = absurd err
+none_answers command w of rows carried unaltered none (Ok reply) err = absurd (search rules)
 
 -- rows
 pub rows_answers : (command : Command) (rows : List Row) (r : Result (List Row) RowFault) (carried : List Done → Type 0) (unaltered : ℕ → Type 0) (history : List Done)
