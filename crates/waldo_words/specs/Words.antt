@@ -87,12 +87,12 @@ is_some_of (x ∷ xs) = true
 -- what every command has, with what stands for the options that were not given
 abbrev pub common_of : List Column → Found → Common
 common_of columns found = record {
-    schema = columns
-    ; capacity = unwrap_or found.capacity (largest_in (bits_in columns))
-    ; seed = unwrap_or found.seed zero_seed
-    ; workers = unwrap_or found.workers 1
-    ; queries = found.queries
-  }
+  schema = columns;
+  capacity = unwrap_or found.capacity (largest_in (bits_in columns));
+  seed = unwrap_or found.seed zero_seed;
+  workers = unwrap_or found.workers 1;
+  queries = found.queries;
+}
 
 -- a schedule, or that it is missing
 abbrev pub replayed : Common → Option (List Step) → Result Command WordFault
