@@ -2,7 +2,7 @@
 use Rattle.std.proofs.Common.{◌&&◌, ◌≡◌, ◌∙◌, refl, ℕ, suc, ◌+◌, ◌-◌, ◌*◌, ◌^◌, ◌<◌, ◌≤◌, Bool, true, false, cond, List, [], ◌∷◌, Some, None, ltb, arith, length, get_or, drop, drop-cons}
 use Rattle.std.specs.Char.{is_ascii_digit}
 use Rattle.std.specs.Str.{all_ascii_digits}
-use Rattle.std.proofs.lemmas.Bool.{le-ltb, lt-ltb}
+use Rattle.std.proofs.lemmas.Bool.{le-ltb}
 use Rattle.text_reading.specs.Number.{value_after}
 use Rattle.waldo_words.specs.Values.{wide_digits_of}
 

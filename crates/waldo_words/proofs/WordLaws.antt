@@ -1,12 +1,10 @@
 -- Laws of reading options, word by word.
-use Rattle.std.proofs.Common.{◌≡◌, ◌∙◌, refl, sym, ap, ℕ, suc, ◌+◌, ◌-◌, ◌<◌, ◌≤◌, List, [], ◌∷◌, length, map, drop, get_or, Option, Some, None, Result, Ok, Err, add-one, arith, drop-cons}
+use Rattle.std.proofs.Common.{◌≡◌, refl, sym, ap, ℕ, suc, ◌+◌, ◌<◌, ◌≤◌, List, ◌∷◌, length, map, drop, get_or, Ok, Err, add-one, arith, drop-cons}
 use Rattle.std.proofs.lemmas.List.{drop_all}
 use Rattle.table_schema.specs.declared.schema.Column.{Column}
 use Rattle.waldo_words.specs.Words.{after_word, all_found, options_from}
 use Rattle.waldo_words.specs.declared.faults.ValueFault.{ValueFault}
-use Rattle.waldo_words.specs.declared.faults.WordFault.{WordFault}
 use Rattle.waldo_words.specs.declared.faults.WordFault.TheVariants.{Word}
-use Rattle.waldo_words.specs.declared.found.Found.{Found}
 use Rattle.waldo_words.specs.declared.names.CommandName.{CommandName}
 use Rattle.waldo_words.specs.declared.progress.Progress.{Progress}
 

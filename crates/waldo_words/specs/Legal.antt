@@ -1,5 +1,5 @@
 -- What holds of every command that was read.
-use Rattle.std.specs.Prelude.{◌≡◌, ℕ, ◌<◌, ◌≤◌, ◌^◌, List, All, length, Option, IfSome}
+use Rattle.std.specs.Prelude.{◌≡◌, ℕ, ◌<◌, ◌≤◌, List, All, length, IfSome}
 use Rattle.query_plan.specs.Query.{AreWidthsOf, Suits}
 use Rattle.query_plan.specs.declared.query.Query.{Query}
 use Rattle.table_schema.specs.Widths.{Fits}
@@ -12,7 +12,6 @@ use Rattle.waldo_words.specs.declared.command.Command.{Command}
 use Rattle.waldo_words.specs.declared.command.Command.TheVariants.{Ask, Replay, Race, Make, Trace, Tamper}
 use Rattle.waldo_words.specs.declared.found.Found.{Found}
 use Rattle.waldo_words.specs.declared.names.CommandName.{CommandName}
-use Rattle.waldo_words.specs.declared.names.OptionName.{OptionName}
 use Rattle.waldo_words.specs.declared.names.OptionName.TheVariants as option
 use Rattle.waldo_words.specs.declared.progress.Progress.{Progress}
 use Rattle.waldo_words.specs.declared.schedule.Step.{Step}

@@ -99,9 +99,18 @@ option_of (value.Shift shift) = option.Shift
 
 abbrev pub nothing_found : Found
 nothing_found = record {
-    queries = []; seed = None; capacity = None; workers = None; schedule = None; writers = None; askers = None; rounds = None
-    ; number = None; rows = None; shifts = []
-  }
+  queries = [];
+  seed = None;
+  capacity = None;
+  workers = None;
+  schedule = None;
+  writers = None;
+  askers = None;
+  rounds = None;
+  number = None;
+  rows = None;
+  shifts = [];
+}
 
 -- with one value more
 abbrev pub with_value : Found → Value → Found

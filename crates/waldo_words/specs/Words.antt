@@ -1,5 +1,5 @@
 -- What the command words say.
-use Rattle.std.specs.Prelude.{ℕ, ◌-◌, ◌+◌, ◌==◌, not, Bool, true, false, List, [], ◌∷◌, Option, Some, None, Result, Ok, Err, if◌then◌else◌, nat_lt, unwrap_or, codes}
+use Rattle.std.specs.Prelude.{ℕ, ◌-◌, ◌+◌, ◌==◌, not, Bool, true, false, List, [], ◌∷◌, Option, Some, None, Result, Ok, Err, nat_lt, unwrap_or, codes}
 use Rattle.std.specs.Option.{ok_or}
 use Rattle.table_schema.specs.Schema.{schema_of}
 use Rattle.table_schema.specs.Widths.{largest_in}
@@ -87,12 +87,12 @@ is_some_of (x ∷ xs) = true
 -- what every command has, with what stands for the options that were not given
 abbrev pub common_of : List Column → Found → Common
 common_of columns found = record {
-    schema = columns
-    ; capacity = unwrap_or found.capacity (largest_in (bits_in columns))
-    ; seed = unwrap_or found.seed zero_seed
-    ; workers = unwrap_or found.workers 1
-    ; queries = found.queries
-  }
+  schema = columns;
+  capacity = unwrap_or found.capacity (largest_in (bits_in columns));
+  seed = unwrap_or found.seed zero_seed;
+  workers = unwrap_or found.workers 1;
+  queries = found.queries;
+}
 
 -- a schedule, or that it is missing
 abbrev pub replayed : Common → Option (List Step) → Result Command WordFault

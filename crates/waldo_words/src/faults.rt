@@ -9,12 +9,8 @@ use std::alloc::{AllocError, AllocFailed};
 /// want of memory.
 #[derive(Drop)]
 pub enum WordFault {
-    Word {
-        index: u64,
-    },
-    Missing {
-        name: NameText,
-    },
+    Word { index: u64 },
+    Missing { name: NameText },
     Memory,
 }
 

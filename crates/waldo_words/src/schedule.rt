@@ -7,24 +7,11 @@ use std::marker::Model;
 /// draws the next input row, places its open row at a server, looks at a server, fixes the next server, or asks a query.
 #[derive(Clone, Copy, Debug, PartialEq, Eq)]
 pub enum Step {
-    Draw {
-        actor: u8,
-    },
-    Place {
-        actor: u8,
-        server: u8,
-    },
-    Look {
-        actor: u8,
-        server: u8,
-    },
-    Fix {
-        actor: u8,
-    },
-    Answer {
-        actor: u8,
-        query: u8,
-    },
+    Draw { actor: u8 },
+    Place { actor: u8, server: u8 },
+    Look { actor: u8, server: u8 },
+    Fix { actor: u8 },
+    Answer { actor: u8, query: u8 },
 }
 
 /// The steps of a replay, seen as their list.

@@ -1,5 +1,5 @@
-use Rattle.std.proofs.Common.{◌≡◌, ◌∙◌, ◌+◌, ◌-◌, ◌≤◌, Err, Ok, arith, inl, inr, length, refl, string_bytes, sym}
-use Rattle.waldo_words.specs.Words.{after_word, all_found}
+use Rattle.std.proofs.Common.{◌≡◌, ◌∙◌, ◌+◌, ◌-◌, Ok, arith, inl, inr, length, refl, string_bytes, sym}
+use Rattle.waldo_words.specs.Words.{after_word}
 use Rattle.waldo_words.proofs.WordLaws.{bad_word, good_word, no_word}
 use Rattle.waldo_words.specs.declared.faults.ValueFault.TheVariants.{Refused}
 use Rattle.waldo_words.proofs.read.read_options.Goals as goal
