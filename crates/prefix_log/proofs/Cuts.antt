@@ -1,9 +1,7 @@
 -- The first rows of chunks, and parts of them.
-use Rattle.std.proofs.Common.{◌≡◌, ◌∙◌, refl, sym, ap, subst, ℕ, ◌+◌, ◌-◌, ◌*◌, ◌/◌, ◌%◌, ◌^◌, ◌<◌, ◌≤◌, min, Bool, true, false, cond, eqb, List, [], length, map, get_or, take, drop, ⊎_elim, arith}
+use Rattle.std.proofs.Common.{◌≡◌, ◌∙◌, refl, sym, ap, subst, ℕ, ◌+◌, ◌-◌, ◌*◌, ◌/◌, ◌%◌, ◌^◌, ◌<◌, ◌≤◌, min, Bool, true, false, cond, eqb, List, [], length, get_or, take, drop, arith}
 use Rattle.std.specs.List.{flat_map, range_with_len}
-use Rattle.std.proofs.lemmas.Bool.{cases_lt}
 use Rattle.std.proofs.lemmas.List.{length-take, length-drop, get_or-take, get_or-drop}
-use Rattle.std.proofs.lemmas.Nat.{mul-le}
 use Rattle.std.proofs.Math.Pow.{pow_mono}
 use Rattle.list_facts.proofs.Listed.{length-listed}
 use Rattle.table_schema.specs.declared.widths.Widths.{Widths}
@@ -14,7 +12,7 @@ use Rattle.scan_chunks.specs.Shelf.{Held, IsShelf}
 use Rattle.scan_chunks.proofs.Chunks.{chunk_by_rows, rows_in}
 use Rattle.prefix_log.specs.Chunks.{Halves, HasRows, HaveRows, chunk_at, first_rows, halves_at, part_at, rows_at}
 use Rattle.prefix_log.specs.RowLists.{row_cells}
-use Rattle.prefix_log.specs.Rows.{IsCut, IsPart, cells_between, rows_before}
+use Rattle.prefix_log.specs.Rows.{IsCut, IsPart, cells_between}
 use Rattle.prefix_log.proofs.Ranges.{rows_count, rows_dropped, rows_same, rows_taken, rows_there}
 
 -- how wide a row is at a column

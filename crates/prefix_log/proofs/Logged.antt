@@ -1,17 +1,17 @@
 -- Logs whose pieces are stored in chunks.
-use Rattle.std.proofs.Common.{◌≡◌, ◌∙◌, refl, sym, ap, ℕ, ◌+◌, ◌*◌, ◌/◌, ◌%◌, ◌<◌, ◌≤◌, ⊎_elim, Bool, true, false, cond, List, [], ◌∷◌, ◌++◌, length, get_or, set, replicate, arith}
+use Rattle.std.proofs.Common.{◌≡◌, ◌∙◌, sym, ap, ℕ, ◌*◌, ◌<◌, ◌≤◌, ⊎_elim, Bool, true, false, cond, List, [], ◌∷◌, ◌++◌, length, get_or, set, replicate, arith}
 use Rattle.std.specs.Prelude.{Option, Some, is_some}
 use Rattle.std.proofs.lemmas.Bool.{cases_lt}
 use Rattle.std.proofs.lemmas.List.{length-set}
 use Rattle.table_schema.specs.Widths.{Fits, column_bits}
 use Rattle.table_schema.specs.declared.widths.Widths.{Widths}
 use Rattle.onehot_column.specs.declared.piece.Piece.{Piece}
-use Rattle.prefix_log.specs.Chunks.{Halves, HavePlaces, IsStored, PlaceWritten, Store, stored_slots}
-use Rattle.prefix_log.specs.Logs.{IsKept, IsOwn, Log, empty_log, log_of, piece_at, placed}
+use Rattle.prefix_log.specs.Chunks.{Halves, IsStored, PlaceWritten, Store, stored_slots}
+use Rattle.prefix_log.specs.Logs.{IsKept, IsOwn, empty_log, log_of, piece_at, placed}
 use Rattle.prefix_log.proofs.Fixed.{all_marked, marks_at}
 use Rattle.prefix_log.proofs.Kept.{new_kept, placed_kept, room_left}
 use Rattle.prefix_log.proofs.Stored.{slots_written, stored_marks, stored_none}
-use Rattle.prefix_log.proofs.Written.{new_stored, none_marked, written_stored}
+use Rattle.prefix_log.proofs.Written.{none_marked, written_stored}
 
 -- ---- a new log
 

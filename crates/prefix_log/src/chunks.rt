@@ -101,7 +101,12 @@ impl Chunks {
     }
 
     // The first rows: the sealed chunks, which are shared, and a copy of the rows that are left.
-    pub fn first(&self, alloc: Global, widths: &Widths, rows: u64) -> Result<Vec<Arc<Chunk>>, Memory>
+    pub fn first(
+        &self,
+        alloc: Global,
+        widths: &Widths,
+        rows: u64,
+    ) -> Result<Vec<Arc<Chunk>>, Memory>
         requires sealed { self.now.sealed ≡ rows / 64 }
         requires there { HaveRows widths.now rows self.now.chunks }
         ensures { IfOk result (λ c. AreFirst widths.now rows self.now.chunks (map arc_value c.items)) }

@@ -1,4 +1,4 @@
-use Rattle.std.proofs.Common.{◌≡◌, ◌∙◌, ◌-◌, ◌*◌, ap, subst, sym, ℕ, List, length, min, rules, arith}
+use Rattle.std.proofs.Common.{◌≡◌, ◌∙◌, ◌-◌, ◌*◌, subst, ℕ, List, min, rules, arith}
 use Rattle.prefix_log.specs.Chunks.{Halves, HasRoom}
 use Rattle.prefix_log.proofs.Sealed.{free_count, free_more, free_places}
 use Rattle.prefix_log.proofs.chunks.free_chunks.Goals as goal
