@@ -1,6 +1,6 @@
 -- Snapshots of a log.
 use Rattle.std.proofs.Common.{◌≡◌, ◌∙◌, refl, sym, ap, subst, ℕ, zero, suc, ◌+◌, ◌-◌, ◌*◌, ◌/◌, ◌%◌, ◌<◌, ◌≤◌, ⊎_elim, Bool, true, false, cond, List, ◌∷◌, ◌++◌, length, map, get_or, take, arith}
-use Rattle.std.specs.Prelude.{Option, Some, None, is_some}
+use Rattle.std.specs.Prelude.{Some, None, is_some}
 use Rattle.std.specs.List.{flat_map, range_with_len}
 use Rattle.std.proofs.lemmas.Bool.{cases_lt}
 use Rattle.std.proofs.lemmas.List.{length-take, get_or-take}
@@ -81,9 +81,6 @@ cells_listed g f a zero = refl
 cells_listed g f a (suc n) = ap (λ (l : List ℕ). g (f a) ++ l) (cells_listed g f (a + 1) n)
 
 module _ (k : ℕ) (w : Widths) (capacity rows : ℕ) (filled : List Bool) (chunks : List (List Halves)) (within : rows ≤ capacity) (below : (place : ℕ) → place < rows → get_or filled place false ≡ true) where
-  slots : List (Option Piece)
-  slots = stored_slots k w capacity filled chunks
-
   pub first_pieces : pieces_in (take rows (stored_slots k w capacity filled chunks)) ≡ listed rows (stored_piece k w chunks)
   first_pieces =
       ap pieces_in (listed_is rows (λ (place : ℕ). Some (stored_piece k w chunks place)) None (take rows (stored_slots k w capacity filled chunks))

@@ -33,7 +33,6 @@ module _ (space prefix server : ℕ) (w : Widths) (capacity : ℕ) (journal : Li
   -- at a place that has a piece nothing changes
   pub taken_is : get_or filled place false ≡ true → placed (log_of server w capacity journal filled store.chunks) place piece ≡ log_of server w capacity journal filled store.chunks
   taken_is there =
-      let log = log_of server w capacity journal filled store.chunks in
       let some = marks_at space prefix server w capacity journal filled store kept stored place ∙ there in
       ap (λ (b : Bool). cond b (log_of server w capacity journal filled store.chunks)
       (record (log_of server w capacity journal filled store.chunks) { journal = journal ++ place ∷ []; slots = set (stored_slots server w capacity filled store.chunks) place (Some piece) })) some

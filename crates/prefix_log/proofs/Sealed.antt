@@ -40,9 +40,6 @@ halves_as start start' own own' next next' old old' new a b c d is =
 -- ---- chunks
 
 module _ (sealed rest : List (List Halves)) where
-  total : ℕ
-  total = length sealed + length rest
-
   pub all_count : length (sealed ++ reverse rest) ≡ length sealed + length rest
   all_count = length-append sealed (reverse rest) ∙ ap (λ (n : ℕ). length sealed + n) (length-reverse rest)
 
