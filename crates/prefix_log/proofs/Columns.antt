@@ -1,5 +1,5 @@
 -- Lists that are as long as a code, column by column.
-use Rattle.std.proofs.Common.{◌≡◌, ◌∙◌, refl, sym, ap, ℕ, zero, suc, ◌+◌, ◌-◌, ◌<◌, ◌≤◌, List, [], ◌∷◌, ◌++◌, length, take, drop, take-add, drop-drop, ⊎_elim, arith}
+use Rattle.std.proofs.Common.{◌≡◌, ◌∙◌, refl, sym, ap, ℕ, zero, suc, ◌+◌, ◌-◌, ◌<◌, ◌≤◌, List, ◌++◌, length, take, drop, take-add, drop-drop, ⊎_elim, arith}
 use Rattle.std.specs.List.{flat_map, range_with_len}
 use Rattle.std.proofs.lemmas.Bool.{cases_lt}
 use Rattle.std.proofs.lemmas.List.{length-append, length-take, length-drop, take_all, take_at}
@@ -22,7 +22,6 @@ columns_from w cells a zero =
     ap (λ (i : ℕ). take i (drop (start_of w a) cells)) none
 columns_from w cells a (suc n) =
     let end = ap (start_of w) (let e : a + suc n ≡ a + 1 + n = omega arith in e) in
-    let rest = start_of w (a + 1 + n) - start_of w (a + 1) in
     let all : width_of w a + (start_of w (a + 1 + n) - start_of w (a + 1)) ≡ start_of w (a + suc n) - start_of w a =
     omega (arith, end, start_more w a, start_below w (a + 1) (a + 1 + n) (omega arith)) in
     ap (λ (l : List ℕ). cells_at w a cells ++ l) (columns_from w cells (a + 1) n

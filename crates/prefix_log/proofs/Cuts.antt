@@ -1,9 +1,7 @@
 -- The first rows of chunks, and parts of them.
-use Rattle.std.proofs.Common.{◌≡◌, ◌∙◌, refl, sym, ap, subst, ℕ, ◌+◌, ◌-◌, ◌*◌, ◌/◌, ◌%◌, ◌^◌, ◌<◌, ◌≤◌, min, Bool, true, false, cond, eqb, List, [], length, map, get_or, take, drop, ⊎_elim, arith}
+use Rattle.std.proofs.Common.{◌≡◌, ◌∙◌, refl, sym, ap, subst, ℕ, ◌+◌, ◌-◌, ◌*◌, ◌/◌, ◌%◌, ◌^◌, ◌<◌, ◌≤◌, min, Bool, true, false, cond, eqb, List, [], length, get_or, take, drop, arith}
 use Rattle.std.specs.List.{flat_map, range_with_len}
-use Rattle.std.proofs.lemmas.Bool.{cases_lt}
 use Rattle.std.proofs.lemmas.List.{length-take, length-drop, get_or-take, get_or-drop}
-use Rattle.std.proofs.lemmas.Nat.{mul-le}
 use Rattle.std.proofs.Math.Pow.{pow_mono}
 use Rattle.list_facts.proofs.Listed.{length-listed}
 use Rattle.table_schema.specs.declared.widths.Widths.{Widths}
@@ -14,7 +12,7 @@ use Rattle.scan_chunks.specs.Shelf.{Held, IsShelf}
 use Rattle.scan_chunks.proofs.Chunks.{chunk_by_rows, rows_in}
 use Rattle.prefix_log.specs.Chunks.{Halves, HasRows, HaveRows, chunk_at, first_rows, halves_at, part_at, rows_at}
 use Rattle.prefix_log.specs.RowLists.{row_cells}
-use Rattle.prefix_log.specs.Rows.{IsCut, IsPart, cells_between, rows_before}
+use Rattle.prefix_log.specs.Rows.{IsCut, IsPart, cells_between}
 use Rattle.prefix_log.proofs.Ranges.{rows_count, rows_dropped, rows_same, rows_taken, rows_there}
 
 -- how wide a row is at a column
@@ -28,9 +26,6 @@ wide w column = by (eqb column w.columns)
 -- ---- the rows at a column
 
 module _ (half : Halves → List ℕ) (w : Widths) (chunks : List (List Halves)) (column : ℕ) where
-  row : ℕ → List ℕ
-  row i = part_at half w chunks i column
-
   row_wide : (i : ℕ) → length (part_at half w chunks i column) ≡ width_of w column
   row_wide i = length-listed (width_of w column) _
 
@@ -46,7 +41,6 @@ module _ (half : Halves → List ℕ) (w : Widths) (chunks : List (List Halves))
   pub rows_between : (a b rows : ℕ) → a ≤ b → b ≤ rows → flat_map (λ (i : ℕ). part_at half w chunks i column) (range_with_len a (b - a)) ≡ cells_between (width_of w column) a b (rows_at half w chunks rows column)
   unfolding rows_at
   rows_between a b rows le le' =
-      let f = λ (i : ℕ). part_at half w chunks i column in
       let start : 0 + a ≡ a = omega arith in
       sym (ap (take ((b - a) * width_of w column)) (rows_dropped (λ (i : ℕ). part_at half w chunks i column) (width_of w column) row_wide 0 a rows (omega arith))
       ∙ rows_taken (λ (i : ℕ). part_at half w chunks i column) (width_of w column) row_wide (0 + a) (b - a) (rows - a) (omega arith)
@@ -56,7 +50,6 @@ module _ (half : Halves → List ℕ) (w : Widths) (chunks : List (List Halves))
   pub chunk_lent : (c rows : ℕ) → c < chunks_of rows → rows_in rows c * width_of w column ≤ length (half (halves_at (chunk_at chunks c) column))
       → take (rows_in rows c * width_of w column) (half (halves_at (chunk_at chunks c) column)) ≡ chunk_of (width_of w column) c (rows_at half w chunks rows column)
   chunk_lent c rows lt long =
-      let cells = half (halves_at (chunk_at chunks c) column) in
       let count : 64 * c + rows_in rows c - 64 * c ≡ rows_in rows c = omega arith in
       sym (rows_there (width_of w column) (rows_in rows c) (half (halves_at (chunk_at chunks c) column)) long)
       ∙ rows_same (row_cells (width_of w column) (half (halves_at (chunk_at chunks c) column))) (λ (i : ℕ). part_at half w chunks i column) 0 (64 * c) (rows_in rows c)
@@ -105,7 +98,6 @@ cut_rows w n rows chunks le have = record { count = (let c = have.count in omega
 -- the last row of a chunk is there, so all of them are
 pub chunk_rows : (w : Widths) (rows c : ℕ) (chunks : List (List Halves)) → HaveRows w rows chunks → c < chunks_of rows → HasRows w (rows_in rows c) (chunk_at chunks c)
 chunk_rows w rows c chunks have lt =
-    let last = 64 * c + rows_in rows c - 1 in
     let n : (64 * c + rows_in rows c - 1) % 64 + 1 ≡ rows_in rows c = omega arith in
     let j : (64 * c + rows_in rows c - 1) / 64 ≡ c = omega arith in
     subst (λ (i : ℕ). HasRows w (rows_in rows c) (chunk_at chunks i)) j

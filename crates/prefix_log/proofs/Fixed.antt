@@ -1,20 +1,18 @@
 -- Snapshots of a log.
-use Rattle.std.proofs.Common.{◌≡◌, ◌∙◌, refl, sym, ap, subst, ℕ, zero, suc, ◌+◌, ◌-◌, ◌*◌, ◌/◌, ◌%◌, ◌<◌, ◌≤◌, ⊎_elim, Bool, true, false, cond, List, [], ◌∷◌, ◌++◌, length, map, get_or, take, arith}
-use Rattle.std.specs.Prelude.{Option, Some, None, is_some}
+use Rattle.std.proofs.Common.{◌≡◌, ◌∙◌, refl, sym, ap, subst, ℕ, zero, suc, ◌+◌, ◌-◌, ◌*◌, ◌/◌, ◌%◌, ◌<◌, ◌≤◌, ⊎_elim, Bool, true, false, cond, List, ◌∷◌, ◌++◌, length, map, get_or, take, arith}
+use Rattle.std.specs.Prelude.{Some, None, is_some}
 use Rattle.std.specs.List.{flat_map, range_with_len}
-use Rattle.std.specs.Option.{option_to_list}
 use Rattle.std.proofs.lemmas.Bool.{cases_lt}
-use Rattle.std.proofs.lemmas.List.{length-take, length-map, get_or-take}
+use Rattle.std.proofs.lemmas.List.{length-take, get_or-take}
 use Rattle.std.proofs.lemmas.Nat.{mul-le}
 use Rattle.list_facts.specs.Listed.{listed}
 use Rattle.list_facts.proofs.Listed.{length-listed, listed_is, listed_same}
 use Rattle.table_schema.specs.declared.widths.Widths.{Widths}
 use Rattle.onehot_column.specs.Code.{width_of, cells_at}
 use Rattle.onehot_column.specs.declared.piece.Piece.{Piece}
-use Rattle.scan_chunks.specs.Pieces.{chunks_of}
 use Rattle.scan_chunks.specs.Shelf.{Held}
-use Rattle.prefix_log.specs.Chunks.{AreFirst, Halves, HasRows, HaveRows, IsCopy, IsStored, Store, chunk_at, first_rows, half_at, halves_at, part_at, rows_at, stored_piece, stored_slots}
-use Rattle.prefix_log.specs.Logs.{Log, IsKept, log_of, piece_at}
+use Rattle.prefix_log.specs.Chunks.{AreFirst, Halves, HasRows, HaveRows, IsCopy, IsStored, Store, chunk_at, first_rows, halves_at, part_at, rows_at, stored_piece, stored_slots}
+use Rattle.prefix_log.specs.Logs.{IsKept, log_of, piece_at}
 use Rattle.prefix_log.specs.RowLists.{row_cells}
 use Rattle.prefix_log.specs.Snapshots.{HoldsPieces, firsts_of, seconds_of, pieces_in}
 use Rattle.prefix_log.proofs.Kept.{prefix_within}
@@ -83,9 +81,6 @@ cells_listed g f a zero = refl
 cells_listed g f a (suc n) = ap (λ (l : List ℕ). g (f a) ++ l) (cells_listed g f (a + 1) n)
 
 module _ (k : ℕ) (w : Widths) (capacity rows : ℕ) (filled : List Bool) (chunks : List (List Halves)) (within : rows ≤ capacity) (below : (place : ℕ) → place < rows → get_or filled place false ≡ true) where
-  slots : List (Option Piece)
-  slots = stored_slots k w capacity filled chunks
-
   pub first_pieces : pieces_in (take rows (stored_slots k w capacity filled chunks)) ≡ listed rows (stored_piece k w chunks)
   first_pieces =
       ap pieces_in (listed_is rows (λ (place : ℕ). Some (stored_piece k w chunks place)) None (take rows (stored_slots k w capacity filled chunks))

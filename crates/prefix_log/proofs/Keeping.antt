@@ -1,6 +1,5 @@
 -- Snapshots of rows.
-use Rattle.std.proofs.Common.{◌≡◌, ◌∙◌, refl, sym, ap, ℕ, zero, suc, ◌+◌, ◌*◌, ◌%◌, ◌≤◌, List, [], ◌∷◌, ◌++◌, length, take, arith}
-use Rattle.std.specs.List.{flat_map}
+use Rattle.std.proofs.Common.{◌≡◌, ◌∙◌, sym, ap, ℕ, zero, suc, ◌+◌, ◌*◌, ◌%◌, ◌≤◌, List, [], ◌∷◌, ◌++◌, length, take, arith}
 use Rattle.std.proofs.lemmas.List.{length-take-le, take_all}
 use Rattle.list_facts.proofs.Listed.{length-listed}
 use Rattle.prg_chacha.specs.declared.seed.Seed.{Seed}
@@ -42,7 +41,6 @@ first_shares : (w : Widths) (k column n : ℕ) (entries : List (Row × Seed)) �
 first_shares w k column zero entries ok = let none : 0 * width_of w column ≡ 0 = omega arith in ap (λ (i : ℕ). take i (shares_of w k entries column)) none
 first_shares w k column (suc n) [] ok = take_all (suc n * width_of w column) [] (omega arith)
 first_shares w k column (suc n) (e ∷ es) ok =
-    let cells = cells_at w column (share_of k e.1 (code_of w e.0)) in
     let wide = row_wide w k column e ok in
     let more : (n + 1) * width_of w column ≡ width_of w column + n * width_of w column = omega arith in
     take_past (cells_at w column (share_of k e.1 (code_of w e.0))) (shares_of w k es column) (suc n * width_of w column) (n * width_of w column) (omega (arith, wide, more))

@@ -1,17 +1,17 @@
 -- Logs whose pieces are stored in chunks.
-use Rattle.std.proofs.Common.{◌≡◌, ◌∙◌, refl, sym, ap, ℕ, ◌+◌, ◌*◌, ◌/◌, ◌%◌, ◌<◌, ◌≤◌, ⊎_elim, Bool, true, false, cond, List, [], ◌∷◌, ◌++◌, length, get_or, set, replicate, arith}
+use Rattle.std.proofs.Common.{◌≡◌, ◌∙◌, sym, ap, ℕ, ◌*◌, ◌<◌, ◌≤◌, ⊎_elim, Bool, true, false, cond, List, [], ◌∷◌, ◌++◌, length, get_or, set, replicate, arith}
 use Rattle.std.specs.Prelude.{Option, Some, is_some}
 use Rattle.std.proofs.lemmas.Bool.{cases_lt}
 use Rattle.std.proofs.lemmas.List.{length-set}
 use Rattle.table_schema.specs.Widths.{Fits, column_bits}
 use Rattle.table_schema.specs.declared.widths.Widths.{Widths}
 use Rattle.onehot_column.specs.declared.piece.Piece.{Piece}
-use Rattle.prefix_log.specs.Chunks.{Halves, HavePlaces, IsStored, PlaceWritten, Store, stored_slots}
-use Rattle.prefix_log.specs.Logs.{IsKept, IsOwn, Log, empty_log, log_of, piece_at, placed}
+use Rattle.prefix_log.specs.Chunks.{Halves, IsStored, PlaceWritten, Store, stored_slots}
+use Rattle.prefix_log.specs.Logs.{IsKept, IsOwn, empty_log, log_of, piece_at, placed}
 use Rattle.prefix_log.proofs.Fixed.{all_marked, marks_at}
 use Rattle.prefix_log.proofs.Kept.{new_kept, placed_kept, room_left}
 use Rattle.prefix_log.proofs.Stored.{slots_written, stored_marks, stored_none}
-use Rattle.prefix_log.proofs.Written.{new_stored, none_marked, written_stored}
+use Rattle.prefix_log.proofs.Written.{none_marked, written_stored}
 
 -- ---- a new log
 
@@ -33,7 +33,6 @@ module _ (space prefix server : ℕ) (w : Widths) (capacity : ℕ) (journal : Li
   -- at a place that has a piece nothing changes
   pub taken_is : get_or filled place false ≡ true → placed (log_of server w capacity journal filled store.chunks) place piece ≡ log_of server w capacity journal filled store.chunks
   taken_is there =
-      let log = log_of server w capacity journal filled store.chunks in
       let some = marks_at space prefix server w capacity journal filled store kept stored place ∙ there in
       ap (λ (b : Bool). cond b (log_of server w capacity journal filled store.chunks)
       (record (log_of server w capacity journal filled store.chunks) { journal = journal ++ place ∷ []; slots = set (stored_slots server w capacity filled store.chunks) place (Some piece) })) some

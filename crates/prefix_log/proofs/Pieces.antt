@@ -1,6 +1,6 @@
 -- The pieces of rows in slots.
 use Rattle.std.proofs.Common.{◌≡◌, ◌∙◌, refl, ap, ℕ, zero, suc, ◌+◌, ◌%◌, List, [], ◌∷◌, ◌++◌, take, arith}
-use Rattle.std.specs.Prelude.{Option, None, Some}
+use Rattle.std.specs.Prelude.{None, Some}
 use Rattle.replicated_share.specs.Share.{share_of}
 use Rattle.onehot_column.specs.Code.{cells_at, code_of}
 use Rattle.prefix_log.specs.Laws.{SharingsGiveCells}

@@ -63,7 +63,6 @@ module _ (f : ℕ → List ℕ) (w : ℕ) (wide : (i : ℕ) → length (f i) ≡
 row_is : (w a : ℕ) (cells : List ℕ) → (a + 1) * w ≤ length cells → row_cells w cells a ≡ take w (drop (a * w) cells)
 row_is w a cells long =
     let more : (a + 1) * w ≡ a * w + w = omega arith in
-    let part = drop (a * w) cells in
     sym (listed_is w (λ (i : ℕ). get_or cells (a * w + i) 0) 0 (take w (drop (a * w) cells)) (omega (arith, more, length-take w (drop (a * w) cells), length-drop (a * w) cells))
     (λ i lt. get_or-take w (drop (a * w) cells) i 0 lt ∙ get_or-drop (a * w) cells i 0))
 

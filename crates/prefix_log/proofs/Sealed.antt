@@ -1,10 +1,8 @@
 -- Chunks that are sealed one after another, and those that are still open, the last one first.
-use Rattle.std.proofs.Common.{◌≡◌, ◌≢◌, ◌∙◌, refl, sym, ap, subst, ℕ, ◌+◌, ◌-◌, ◌*◌, ◌/◌, ◌%◌, ◌<◌, ◌≤◌, ◌⊎◌, ⊎_elim, min, List, [], ◌∷◌, ◌++◌, length, map, reverse, get_or, set, append_assoc, arith}
+use Rattle.std.proofs.Common.{◌≡◌, ◌≢◌, ◌∙◌, refl, sym, ap, subst, ℕ, ◌+◌, ◌-◌, ◌*◌, ◌/◌, ◌%◌, ◌<◌, ◌≤◌, ⊎_elim, min, List, [], ◌∷◌, ◌++◌, length, reverse, get_or, set, arith}
 use Rattle.std.proofs.lemmas.Bool.{cases_lt}
-use Rattle.std.proofs.lemmas.List.{length-append, length-map, length-reverse, length-set, length_push, get_or_append_left, get_or-append_right, get_or_past, get_or_push, get_or-reverse, get_or-set_same, get_or-set_other, map-append, map_push, reverse-append}
-use Rattle.std.proofs.lemmas.Nat.{mul-le}
+use Rattle.std.proofs.lemmas.List.{length-append, length-reverse, length-set, length_push, get_or_append_left, get_or-append_right, get_or_past, get_or_push, get_or-reverse, get_or-set_same, get_or-set_other}
 use Rattle.table_schema.specs.declared.widths.Widths.{Widths}
-use Rattle.onehot_column.specs.Code.{width_of, cells_at}
 use Rattle.scan_chunks.specs.Pieces.{chunks_of}
 use Rattle.prefix_log.specs.Chunks.{AreFirst, Halves, HalvesWritten, HasRoom, HasRows, HavePlaces, HaveRows, IsCopy, PlaceWritten, RowWritten, chunk_at, halves_at}
 use Rattle.prefix_log.proofs.Cuts.{chunk_rows}
@@ -42,9 +40,6 @@ halves_as start start' own own' next next' old old' new a b c d is =
 -- ---- chunks
 
 module _ (sealed rest : List (List Halves)) where
-  total : ℕ
-  total = length sealed + length rest
-
   pub all_count : length (sealed ++ reverse rest) ≡ length sealed + length rest
   all_count = length-append sealed (reverse rest) ∙ ap (λ (n : ℕ). length sealed + n) (length-reverse rest)
 

@@ -1,12 +1,10 @@
 -- The pieces that chunks store.
-use Rattle.std.proofs.Common.{◌≡◌, ◌≢◌, ◌∙◌, refl, sym, ap, subst, ℕ, ◌+◌, ◌-◌, ◌*◌, ◌/◌, ◌%◌, ◌<◌, ◌≤◌, ◌⊎◌, ⊎_elim, Bool, true, false, cond, List, [], ◌∷◌, length, get_or, set, arith}
-use Rattle.std.specs.Prelude.{Option, Some, None, is_some}
-use Rattle.std.specs.List.{flat_map, range_with_len}
+use Rattle.std.proofs.Common.{◌≡◌, ◌≢◌, ◌∙◌, refl, sym, ap, subst, ℕ, ◌+◌, ◌*◌, ◌/◌, ◌%◌, ◌<◌, ◌≤◌, ◌⊎◌, ⊎_elim, Bool, true, false, cond, List, length, get_or, set, arith}
+use Rattle.std.specs.Prelude.{Some, None, is_some}
 use Rattle.std.proofs.lemmas.Bool.{cases_lt, cases_order}
 use Rattle.std.proofs.lemmas.List.{ext_get_or, get_or-set_same, get_or-set_other, get_or_past, length-set}
 use Rattle.std.proofs.lemmas.Nat.{mul-le}
 use native.Mathlib.Nat.{ℕ_set}
-use mathlib.Core.List.{is_set}
 use Rattle.list_facts.specs.Listed.{listed}
 use Rattle.list_facts.proofs.Listed.{get_or-listed, length-listed, listed_is, listed_same}
 use Rattle.replicated_share.specs.declared.pair_list.PairList.{PairList}
@@ -15,7 +13,7 @@ use Rattle.table_schema.specs.declared.widths.Widths.{Widths}
 use Rattle.onehot_column.specs.Code.{width_of, cells_at}
 use Rattle.onehot_column.specs.Piece.{HasWidths}
 use Rattle.onehot_column.specs.declared.piece.Piece.{Piece}
-use Rattle.prefix_log.specs.Chunks.{Halves, HalvesWritten, IsWritten, PlaceWritten, RowWritten, chunk_at, half_at, halves_at, part_at, stored_piece, stored_slots}
+use Rattle.prefix_log.specs.Chunks.{Halves, IsWritten, PlaceWritten, chunk_at, half_at, halves_at, part_at, stored_piece, stored_slots}
 use Rattle.prefix_log.specs.Logs.{piece_at}
 use Rattle.prefix_log.specs.RowLists.{row_cells}
 use Rattle.prefix_log.proofs.Columns.{cells_wide, columns_join, columns_long, columns_part}

@@ -1,13 +1,12 @@
 -- Stores that stay stores where pieces are written.
-use Rattle.std.proofs.Common.{◌≡◌, ◌≢◌, ◌∙◌, refl, sym, ap, subst, ℕ, ◌+◌, ◌-◌, ◌*◌, ◌/◌, ◌%◌, ◌<◌, ◌≤◌, ◌⊎◌, inl, inr, ⊎_elim, min, Bool, true, false, List, [], ◌∷◌, ◌++◌, length, get_or, set, take, drop, replicate, arith}
+use Rattle.std.proofs.Common.{◌≡◌, ◌≢◌, ◌∙◌, sym, ap, subst, ℕ, ◌+◌, ◌-◌, ◌*◌, ◌/◌, ◌%◌, ◌<◌, ◌≤◌, ◌⊎◌, ⊎_elim, min, Bool, true, false, List, length, get_or, set, replicate, arith}
 use Rattle.std.proofs.lemmas.Bool.{cases_lt, cases_order}
-use Rattle.std.proofs.lemmas.List.{length-append, length-take, length-drop, length-set, length-replicate, get_or_append_left, get_or-append_right, get_or-take, get_or-drop, get_or_past, get_or-replicate, get_or-set_other, take_all}
+use Rattle.std.proofs.lemmas.List.{length-set, length-replicate, get_or_past, get_or-replicate, get_or-set_other}
 use Rattle.std.proofs.lemmas.Nat.{mul-le}
 use Rattle.table_schema.specs.Widths.{code_length, column_bits}
 use Rattle.table_schema.specs.declared.widths.Widths.{Widths}
-use Rattle.onehot_column.specs.Code.{width_of, cells_at}
-use Rattle.scan_chunks.specs.Pieces.{chunks_of}
-use Rattle.prefix_log.specs.Chunks.{Halves, HalvesWritten, HasRoom, HasRows, HavePlaces, IsStored, IsWritten, PlaceWritten, RowWritten, Store, chunk_at, halves_at}
+use Rattle.onehot_column.specs.Code.{width_of}
+use Rattle.prefix_log.specs.Chunks.{Halves, HasRoom, HasRows, HavePlaces, IsStored, PlaceWritten, RowWritten, Store, chunk_at}
 use Rattle.prefix_log.proofs.Columns.{cells_wide}
 
 -- a chunk in which a row was written has room and rows as before

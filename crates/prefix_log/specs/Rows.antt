@@ -1,5 +1,5 @@
 -- Rows of a shelf: the first of them, and parts of them.
-use Rattle.std.specs.Prelude.{◌≡◌, ℕ, ◌+◌, ◌-◌, ◌*◌, ◌/◌, ◌<◌, ◌≤◌, List, take, drop, min}
+use Rattle.std.specs.Prelude.{◌≡◌, ℕ, ◌+◌, ◌-◌, ◌*◌, ◌/◌, ◌≤◌, List, take, drop, min}
 use Rattle.scan_chunks.specs.Pieces.{chunks_of}
 use Rattle.scan_chunks.specs.Shelf.{Held}
 

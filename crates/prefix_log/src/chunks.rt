@@ -101,7 +101,12 @@ impl Chunks {
     }
 
     // The first rows: the sealed chunks, which are shared, and a copy of the rows that are left.
-    pub fn first(&self, alloc: Global, widths: &Widths, rows: u64) -> Result<Vec<Arc<Chunk>>, Memory>
+    pub fn first(
+        &self,
+        alloc: Global,
+        widths: &Widths,
+        rows: u64,
+    ) -> Result<Vec<Arc<Chunk>>, Memory>
         requires sealed { self.now.sealed ≡ rows / 64 }
         requires there { HaveRows widths.now rows self.now.chunks }
         ensures { IfOk result (λ c. AreFirst widths.now rows self.now.chunks (map arc_value c.items)) }
@@ -127,13 +132,13 @@ fn free_chunks(
     requires count { count ≡ chunks_of capacity }
     ensures { IfOk result (λ c. HavePlaces widths.now capacity (reverse c.items)) }
 {
-    let mut open = Vec::with_capacity(alloc, count as usize)?;
+    let mut chunks = Vec::with_capacity(alloc, count as usize)?;
     for behind in 0..count {
         let before = 64 * (count - 1 - behind);
         let rows = 64.min(capacity - before) as usize;
-        open.push(Chunk::new(alloc, widths, rows)?)?;
+        chunks.push(Chunk::new(alloc, widths, rows)?)?;
     }
-    Ok(open)
+    Ok(chunks)
 }
 
 // The same chunks once more, with room for so many. Nothing is copied.

@@ -42,8 +42,8 @@ impl Model for ServerLog {
 }
 
 impl ServerLog {
-    /// A log without pieces. All memory that it will ever want for its journal and the cells of its pieces is taken here.
-    /// The only error is want of it.
+    /// A log without pieces. All memory that it will ever want is taken here, 32 bytes for each cell of its places among it;
+    /// it is written as pieces come. The only error is want of it.
     pub fn new(
         alloc: Global,
         server: u8,

@@ -1,4 +1,4 @@
-use Rattle.std.proofs.Common.{◌≡◌, ◌∙◌, ◌+◌, ◌*◌, ◌<◌, ◌≤◌, ap, ℕ, length, arith}
+use Rattle.std.proofs.Common.{◌∙◌, ◌*◌, ◌<◌, ◌≤◌, ap, ℕ, length, arith}
 use Rattle.std.proofs.lemmas.List.{length-set}
 use Rattle.onehot_column.specs.Code.{cells_at, width_of}
 use Rattle.prefix_log.specs.Chunks.{Halves, HalvesWritten, halves_at}

@@ -1,4 +1,4 @@
-use Rattle.std.proofs.Common.{◌≡◌, ◌≤◌}
+use Rattle.std.proofs.Common.{◌≡◌}
 use Rattle.prefix_log.proofs.tests.fill.Given as goal
 
 abbrev pub invariant-loop-n : goal.invariant-loop-n

@@ -1,7 +1,7 @@
-use Rattle.std.proofs.Common.{◌≡◌, ◌∙◌, ◌+◌, ◌-◌, ◌/◌, ◌<◌, ◌≤◌, ap, List, length, map, arith}
+use Rattle.std.proofs.Common.{◌≡◌, ◌∙◌, ◌+◌, ◌-◌, ◌/◌, ◌<◌, ◌≤◌, ap, length, map, arith}
 use Rattle.std.proofs.lemmas.List.{length-map}
 use Rattle.std.specs.Arc.{arc_value}
-use Rattle.prefix_log.specs.Chunks.{Halves, Store}
+use Rattle.prefix_log.specs.Chunks.{Store}
 use Rattle.prefix_log.proofs.Kept.{any_default}
 use Rattle.prefix_log.proofs.Sealed.{all_count, open_written_at}
 use Rattle.prefix_log.proofs.chunks.Chunks.write.Goals as goal

@@ -1,4 +1,4 @@
-use Rattle.std.proofs.Common.{◌≡◌, ◌+◌, ◌/◌, ◌≤◌, sym, subst, List, length, map, take, arith}
+use Rattle.std.proofs.Common.{sym, subst, List, map, take, arith}
 use Rattle.std.specs.Prelude.{vec_capacity}
 use Rattle.std.specs.Arc.{arc_value}
 use Rattle.prefix_log.specs.Chunks.{AreFirst, Halves, HaveRows, first_rows}

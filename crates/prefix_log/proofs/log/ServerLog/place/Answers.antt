@@ -1,7 +1,7 @@
-use Rattle.std.proofs.Common.{◌≡◌, ◌∙◌, ◌<◌, ◌≤◌, ◌++◌, ◌∷◌, [], sym, ap, subst, ℕ, List, Bool, false, true, get_or, length, set, rules, arith}
+use Rattle.std.proofs.Common.{◌≡◌, ◌∙◌, ◌<◌, ◌≤◌, sym, ap, subst, ℕ, List, Bool, false, true, get_or, length, set, rules, arith}
 use Rattle.std.specs.Prelude.{vec_capacity}
 use Rattle.std.proofs.lemmas.List.{length-set}
-use Rattle.prefix_log.specs.Logs.{IsKept, IsOwn, Log, log_of, placed}
+use Rattle.prefix_log.specs.Logs.{IsOwn, Log, log_of, placed}
 use Rattle.prefix_log.proofs.Fixed.{prefix_fits}
 use Rattle.prefix_log.proofs.Kept.{any_default}
 use Rattle.prefix_log.proofs.Logged.{journal_room, log_kept, log_stored, past_sealed, placed_is, taken_is}
@@ -44,12 +44,13 @@ invariant_of-self c =
     let free : get_or s.filled.items c.args.place false ≡ false = search rules in
     let own : IsOwn s.server s.widths c.args.piece = search rules in
     let below = λ (x : ℕ). λ (a : s.prefix ≤ x). λ (b : x < c.first_gap.result). ap (λ (l : List Bool). get_or l x false) (sym c.as_slice.ensures.value) ∙ c.first_gap.ensures.below x a b in
-    let gap = ap (λ (l : List Bool). get_or l c.first_gap.result false) (sym c.as_slice.ensures.value) ∙ c.first_gap.ensures.gap in
-    (rw (c.push_reserved.ensures.capacity, c.push_reserved.ensures.items)
-    (log_kept (vec_capacity s.journal) s.prefix s.server s.widths s.capacity s.journal.items s.filled.items s.chunks c.self.invariant.0 c.self.invariant.1 c.args.place c.args.piece lt free c.write.new.self c.write.ensures.written own
-    c.first_gap.result c.first_gap.ensures.later below gap),
-    log_stored (vec_capacity s.journal) s.prefix s.server s.widths s.capacity s.journal.items s.filled.items s.chunks c.self.invariant.0 c.self.invariant.1 c.args.place c.args.piece lt free c.write.new.self c.write.ensures.written own
-    c.first_gap.result c.first_gap.ensures.later below gap c.write.ensures.sealed)
+    let gap = ap (λ (l : List Bool). get_or l c.first_gap.result false) (sym c.as_slice.ensures.value) ∙ c.first_gap.ensures.gap in (
+      rw (c.push_reserved.ensures.capacity, c.push_reserved.ensures.items)
+          (log_kept (vec_capacity s.journal) s.prefix s.server s.widths s.capacity s.journal.items s.filled.items s.chunks c.self.invariant.0 c.self.invariant.1 c.args.place c.args.piece lt free c.write.new.self c.write.ensures.written own
+          c.first_gap.result c.first_gap.ensures.later below gap),
+      log_stored (vec_capacity s.journal) s.prefix s.server s.widths s.capacity s.journal.items s.filled.items s.chunks c.self.invariant.0 c.self.invariant.1 c.args.place c.args.piece lt free c.write.new.self c.write.ensures.written own
+          c.first_gap.result c.first_gap.ensures.later below gap c.write.ensures.sealed,
+    )
 
 pub returns-clause-placed : goal.returns-clause-placed
 returns-clause-placed c =

@@ -1,4 +1,4 @@
-use Rattle.std.proofs.Common.{◌∙◌, ◌-◌, sym, ap, drop, map, take, List, Vec, Global}
+use Rattle.std.proofs.Common.{◌∙◌, ◌-◌, sym, ap, drop, map, take, List, Global}
 use Rattle.std.proofs.lemmas.List.{drop-map, take-map}
 use Rattle.std.proofs.lemmas.Result.{IfOk-weaker}
 use Rattle.std.specs.Arc.{arc_value}

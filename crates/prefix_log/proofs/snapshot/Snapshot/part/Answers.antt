@@ -1,4 +1,4 @@
-use Rattle.std.proofs.Common.{◌≡◌, ◌∙◌, ◌*◌, ap, ℕ, map, min}
+use Rattle.std.proofs.Common.{◌∙◌, ◌*◌, ap, ℕ, map, min}
 use Rattle.std.specs.Arc.{arc_value}
 use Rattle.prefix_log.proofs.Cuts.{part_is_at, part_rows_at}
 use Rattle.prefix_log.proofs.snapshot.Snapshot.part.Goals as goal

@@ -1,4 +1,4 @@
-use Rattle.std.proofs.Common.{◌≡◌, ◌∙◌, ◌+◌, ◌-◌, ◌/◌, ◌%◌, ◌<◌, ◌≤◌, [], cond, ltb, map, rules, arith}
+use Rattle.std.proofs.Common.{◌≡◌, ◌∙◌, ◌+◌, ◌/◌, ◌%◌, ◌<◌, ◌≤◌, [], cond, ltb, map, rules, arith}
 use Rattle.scan_chunks.specs.Pieces.{chunks_of}
 use Rattle.std.specs.Arc.{arc_value}
 use Rattle.prefix_log.specs.Chunks.{first_rows}
