@@ -2,6 +2,7 @@ mod Advancing
 mod Cases
 mod Going
 mod Growing
+mod Keeping
 mod Kept
 mod Loops
 mod Outcomes

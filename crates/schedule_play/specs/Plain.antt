@@ -2,6 +2,7 @@
 use Rattle.std.specs.Prelude.{ℕ, ◌≡◌, ◌+◌, ⊤, IfSome, Option, Some, None, List, [], ◌∷◌, length, slice_get}
 use Rattle.server_rounds.specs.declared.opened.OpenedPair.{OpenedPair}
 use Rattle.onehot_column.specs.Code.{word_of}
+use Rattle.prg_chacha.specs.declared.seed.Seed.{Seed}
 use Rattle.query_plan.specs.declared.query.Query.{Query}
 use Rattle.report_lines.specs.declared.lines.Line.{Line}
 use Rattle.report_lines.specs.declared.lines.Line.TheVariants as lines
@@ -19,7 +20,7 @@ use Rattle.schedule_play.specs.Tasks.{Setting}
 use Rattle.schedule_play.specs.declared.style.Style.{Style}
 
 -- the plain answer over the rows that were agreed on, and the key times it
-abbrev pub plain_over : Core → Query → ℕ → Option ℕ → OpenedPair
+abbrev pub plain_over : Core → Query → Seed → Option ℕ → OpenedPair
 plain_over core query seed None = nothing_opened
 plain_over core query seed (Some n) = plain_pair core.order n query seed
 
