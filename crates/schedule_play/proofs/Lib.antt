@@ -1,4 +1,7 @@
 mod Advancing
+mod AppendedRows
+mod AskedPlain
+mod AskedQueries
 mod Cases
 mod Going
 mod Growing
@@ -7,4 +10,5 @@ mod Kept
 mod Loops
 mod Outcomes
 mod Readying
+mod RowNumbers
 mod Single

@@ -11,4 +11,6 @@ pub fn asked_in_order()
 /// The same where nothing is altered: each line is the plain answer.
 pub fn asked_plainly()
     ensures { AskedPlainly }
-{}
+{
+    transcript::laws::plain_is_small();
+}
