@@ -59,15 +59,15 @@ pub record IsCommon (c : Common) : Type 0 where
   pub suits : All (SuitsColumns c.schema) c.queries
   pub workers : IsFew c.workers
 
-pub record IsReplay (c : Common) (schedule : List Step) : Type 0 where
+pub record IsReplay (c : Common) (steps : List Step) : Type 0 where
   pub common : IsCommon c
-  pub schedule : IsSchedule schedule
+  pub schedule : IsSchedule steps
 
-pub record IsRace (c : Common) (writers askers rounds : ℕ) : Type 0 where
+pub record IsRace (c : Common) (w a r : ℕ) : Type 0 where
   pub common : IsCommon c
-  pub writers : IsFew writers
-  pub askers : IsFew askers
-  pub rounds : IsFew rounds
+  pub writers : IsFew w
+  pub askers : IsFew a
+  pub rounds : IsFew r
 
 -- the table has room for just the rows
 pub record IsMake (c : Common) (rows : ℕ) : Type 0 where
@@ -75,12 +75,12 @@ pub record IsMake (c : Common) (rows : ℕ) : Type 0 where
   pub capacity : c.capacity ≡ rows
   pub fits : Fits (bits_in c.schema) rows
 
-pub record IsTamper (c : Common) (shifts : List ShiftWord) : Type 0 where
+pub record IsTamper (c : Common) (words : List ShiftWord) : Type 0 where
   pub common : IsCommon c
   pub single : length c.queries ≡ 1
-  pub some : 1 ≤ length shifts
-  pub few : length shifts ≤ 16
-  pub shifts : All IsShift shifts
+  pub some : 1 ≤ length words
+  pub few : length words ≤ 16
+  pub shifts : All IsShift words
 
 -- what the layers above may rely on
 abbrev pub IsLegal : Command → Type 0

@@ -21,6 +21,8 @@ use Rattle.waldo_words.specs.declared.names.CommandName.{CommandName}
 use Rattle.waldo_words.specs.declared.names.CommandName.TheVariants as name
 use Rattle.waldo_words.specs.declared.names.OptionName.{OptionName}
 use Rattle.waldo_words.specs.declared.progress.Progress.{Progress}
+use Rattle.waldo_words.specs.declared.schedule.Step.{Step}
+use Rattle.waldo_words.specs.declared.shifts.ShiftWord.{ShiftWord}
 
 -- ---- one word
 
@@ -92,6 +94,14 @@ common_of columns found = record {
     ; queries = found.queries
   }
 
+-- a schedule, or that it is missing
+abbrev pub replayed : Common → Option (List Step) → Result Command WordFault
+replayed common schedule = ok_or schedule (Missing (codes "--schedule")) >>= λ steps. Ok (commands.Replay common steps)
+
+-- a shift at least, or that it is missing
+abbrev pub tampered : Common → List ShiftWord → Result Command WordFault
+tampered common shifts = guard (is_some_of shifts) (Missing (codes "--shift")) >>= λ _. Ok (commands.Tamper common shifts)
+
 -- a table with room for just the rows that are made, or what is missing of their number and how many they are
 abbrev pub made : Common → Option ℕ → Option ℕ → Result Command WordFault
 made common number rows =
@@ -102,16 +112,12 @@ made common number rows =
 -- the command with its options, or the first required one that is missing, `--query` apart
 abbrev pub command_with : CommandName → List Column → Found → Result Command WordFault
 command_with name.Ask columns found = Ok (commands.Ask (common_of columns found))
-command_with name.Replay columns found =
-    ok_or found.schedule (Missing (codes "--schedule")) >>= λ schedule.
-    Ok (commands.Replay (common_of columns found) schedule)
+command_with name.Replay columns found = replayed (common_of columns found) found.schedule
 command_with name.Race columns found =
     Ok (commands.Race (common_of columns found) (unwrap_or found.writers 2) (unwrap_or found.askers 2) (unwrap_or found.rounds 1))
 command_with name.Make columns found = made (common_of columns found) found.number found.rows
 command_with name.Trace columns found = Ok (commands.Trace (common_of columns found))
-command_with name.Tamper columns found =
-    guard (is_some_of found.shifts) (Missing (codes "--shift")) >>= λ _.
-    Ok (commands.Tamper (common_of columns found) found.shifts)
+command_with name.Tamper columns found = tampered (common_of columns found) found.shifts
 
 -- every command wants a query, before all else
 unfoldable pub finished : CommandName → List Column → Found → Result Command WordFault

@@ -2,13 +2,15 @@
 ghost use Rattle.table_schema.specs.Widths.{Fits, largest_in};
 ghost use Rattle.text_reading.specs.Reading.{Reads};
 ghost use Rattle.waldo_words.specs.Values.{bits_in};
-ghost use Rattle.waldo_words.specs.Words.{finished, made};
+ghost use Rattle.waldo_words.specs.Words.{finished, made, replayed, tampered};
 
 use crate::command::{Command, Common};
 use crate::faults::WordFault;
 use crate::found::Found;
 use crate::names::CommandName;
+use crate::schedule::Schedule;
 use crate::seeds::plain_seed;
+use crate::shifts::ShiftWords;
 use table_schema::Schema;
 
 /// The command with the options found, or the first required one that is missing.
@@ -23,41 +25,63 @@ pub(crate) fn finish(
     // So the capacity is one that fits also where none is given.
     ensures fits { Fits (bits_in schema) (largest_in (bits_in schema)) }
 {
-    let capacity = found.capacity.unwrap_or(schema.widths().largest());
-    if found.queries.is_empty() {
+    let Found {
+        queries,
+        seed,
+        capacity,
+        workers,
+        schedule,
+        writers,
+        askers,
+        rounds,
+        number,
+        rows,
+        shifts,
+    } = found;
+    let capacity = capacity.unwrap_or(schema.widths().largest());
+    if queries.is_empty() {
         return Err(WordFault::missing("--query"));
     }
     let common = Common {
         schema,
         capacity,
-        seed: found.seed.unwrap_or(plain_seed()),
-        workers: found.workers.unwrap_or(1),
-        queries: found.queries,
+        seed: seed.unwrap_or(plain_seed()),
+        workers: workers.unwrap_or(1),
+        queries,
     };
     match command {
         CommandName::Ask => Ok(Command::Ask(common)),
-        CommandName::Replay => match found.schedule {
-            None => Err(WordFault::missing("--schedule")),
-            Some(schedule) => Ok(Command::Replay { common, schedule }),
-        },
+        CommandName::Replay => replay(common, schedule),
         CommandName::Race => Ok(Command::Race {
             common,
-            writers: found.writers.unwrap_or(2),
-            askers: found.askers.unwrap_or(2),
-            rounds: found.rounds.unwrap_or(1),
+            writers: writers.unwrap_or(2),
+            askers: askers.unwrap_or(2),
+            rounds: rounds.unwrap_or(1),
         }),
-        CommandName::Make => make(common, found.number, found.rows),
+        CommandName::Make => make(common, number, rows),
         CommandName::Trace => Ok(Command::Trace(common)),
-        CommandName::Tamper => {
-            if found.shifts.is_empty() {
-                return Err(WordFault::missing("--shift"));
-            }
-            Ok(Command::Tamper {
-                common,
-                shifts: found.shifts,
-            })
-        }
+        CommandName::Tamper => tamper(common, shifts),
     }
+}
+
+// The command to go through a schedule.
+fn replay(common: Common, schedule: Option<Schedule>) -> Result<Command, WordFault>
+    ensures { Reads (λ command. command) result (replayed common schedule) }
+{
+    match schedule {
+        None => Err(WordFault::missing("--schedule")),
+        Some(schedule) => Ok(Command::Replay { common, schedule }),
+    }
+}
+
+// The command to alter words.
+fn tamper(common: Common, shifts: ShiftWords) -> Result<Command, WordFault>
+    ensures { Reads (λ command. command) result (tampered common shifts) }
+{
+    if shifts.is_empty() {
+        return Err(WordFault::missing("--shift"));
+    }
+    Ok(Command::Tamper { common, shifts })
 }
 
 // The command to generate rows: the table has room for just these.

@@ -15,15 +15,20 @@
 //! ```
 #![tactic(auto)]
 
+mod amounts;
 mod command;
 mod faults;
+mod finish;
 mod found;
 mod names;
+mod numbers;
 mod progress;
 mod queries;
 mod read;
 mod schedule;
+mod seeds;
 mod shifts;
+mod steps;
 mod value;
 
 pub use command::{Command, Common};
@@ -33,3 +38,6 @@ pub use read::read_words;
 pub use report_lines::NameText;
 pub use schedule::{Schedule, Step};
 pub use shifts::{Amount, ShiftWord, ShiftWords};
+
+#[cfg(test)]
+mod tests;

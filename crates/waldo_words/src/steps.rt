@@ -69,7 +69,7 @@ fn step(token: &[u8]) -> Option<Step>
 }
 
 /// The schedule of a text: 1 to 4,096 tokens, with single spaces between them.
-#[tactic(auto, using(crate::proofs::StepLaws::too_many, crate::proofs::StepLaws::few_enough, crate::proofs::StepLaws::bad_step))]
+#[tactic(auto, using(crate::proofs::StepLaws::too_many, crate::proofs::StepLaws::bad_step, crate::proofs::StepLaws::fewer_left))]
 pub(crate) fn read_schedule(alloc: Global, text: &[u8]) -> Result<Schedule, ValueFault>
     ensures exact { Gives fault.Memory (λ s. s) result (ok_or (schedule_of text.now) fault.Refused) }
     ensures legal { IfOk result IsSchedule }

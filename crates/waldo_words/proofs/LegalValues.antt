@@ -1,0 +1,297 @@
+-- What was read is legal.
+use Rattle.std.proofs.Common.{◌≡◌, refl, sym, ap, subst, ℕ, suc, ◌+◌, ◌<◌, ◌≤◌, Bool, true, false, List, [], ◌∷◌, ◌++◌, length, Option, Some, None, Result, Ok, Err, IfOk, IfSome, All, unwrap_or, arith, length-append}
+use Rattle.std.proofs.lemmas.List.Elements.{All-nil, All-push}
+use Rattle.query_plan.specs.declared.query.Query.{Query}
+use Rattle.table_schema.specs.Widths.{Fits, largest_in}
+use Rattle.table_schema.specs.declared.schema.Column.{Column}
+use Rattle.text_reading.specs.Reading.{◌>>=◌, Reads, guard}
+use Rattle.std.specs.Prelude.{codes}
+use Rattle.waldo_words.specs.Legal.{IsCommon, IsFew, IsFound, IsLegal, IsSchedule, IsShift, IsValue, SuitsColumns}
+use Rattle.waldo_words.specs.Options.{most_times, nothing_found, option_of, times_found, with_value}
+use Rattle.waldo_words.specs.Values.{bits_in}
+use Rattle.waldo_words.specs.Words.{command_with, common_of, finished, is_some_of, made, replayed, tampered}
+use Rattle.waldo_words.specs.declared.command.Common.{Common}
+use Rattle.waldo_words.specs.declared.command.Command.{Command}
+use Rattle.waldo_words.specs.declared.command.Command.TheVariants as commands
+use Rattle.waldo_words.specs.declared.faults.WordFault.{WordFault}
+use Rattle.waldo_words.specs.declared.faults.WordFault.TheVariants.{Missing}
+use Rattle.waldo_words.specs.declared.found.Found.{Found}
+use Rattle.waldo_words.specs.declared.names.CommandName.{CommandName}
+use Rattle.waldo_words.specs.declared.names.CommandName.TheVariants as name
+use Rattle.waldo_words.specs.declared.names.OptionName.TheVariants as option
+use Rattle.waldo_words.specs.declared.schedule.Step.{Step}
+use Rattle.waldo_words.specs.declared.shifts.ShiftWord.{ShiftWord}
+use Rattle.waldo_words.specs.declared.value.Value.{Value}
+use Rattle.waldo_words.specs.declared.value.Value.TheVariants as value
+
+-- ---- values
+
+pub none_found : (command : CommandName) (columns : List Column) → IsFound command columns nothing_found
+none_found command columns = record {
+  queries = omega arith;
+  places = All-nil (λ (q : Query). length q.predicates ≡ 4);
+  suits = All-nil (SuitsColumns columns);
+  capacity = tt;
+  workers = tt;
+  schedule = tt;
+  writers = tt;
+  askers = tt;
+  rounds = tt;
+  rows = tt;
+  shifts = omega arith;
+  moved = All-nil IsShift;
+}
+
+-- one value more, of an option that may stand once more
+pub one_more : (command : CommandName) (columns : List Column) (found : Found) (v : Value) → IsFound command columns found
+    → times_found found (option_of v) < most_times (option_of v) command → IsValue columns v → IsFound command columns (with_value found v)
+one_more command columns found (value.Query q) h room legal = record {
+  queries = omega (arith, room, length-append found.queries (q ∷ []));
+  places = All-push (λ (q : Query). length q.predicates ≡ 4) found.queries q h.places legal.0;
+  suits = All-push (SuitsColumns columns) found.queries q h.suits legal.1;
+  capacity = h.capacity;
+  workers = h.workers;
+  schedule = h.schedule;
+  writers = h.writers;
+  askers = h.askers;
+  rounds = h.rounds;
+  rows = h.rows;
+  shifts = h.shifts;
+  moved = h.moved;
+}
+one_more command columns found (value.Seed s) h room legal = record {
+  queries = h.queries;
+  places = h.places;
+  suits = h.suits;
+  capacity = h.capacity;
+  workers = h.workers;
+  schedule = h.schedule;
+  writers = h.writers;
+  askers = h.askers;
+  rounds = h.rounds;
+  rows = h.rows;
+  shifts = h.shifts;
+  moved = h.moved;
+}
+one_more command columns found (value.Capacity n) h room legal = record {
+  queries = h.queries;
+  places = h.places;
+  suits = h.suits;
+  capacity = legal;
+  workers = h.workers;
+  schedule = h.schedule;
+  writers = h.writers;
+  askers = h.askers;
+  rounds = h.rounds;
+  rows = h.rows;
+  shifts = h.shifts;
+  moved = h.moved;
+}
+one_more command columns found (value.Workers n) h room legal = record {
+  queries = h.queries;
+  places = h.places;
+  suits = h.suits;
+  capacity = h.capacity;
+  workers = legal;
+  schedule = h.schedule;
+  writers = h.writers;
+  askers = h.askers;
+  rounds = h.rounds;
+  rows = h.rows;
+  shifts = h.shifts;
+  moved = h.moved;
+}
+one_more command columns found (value.Schedule s) h room legal = record {
+  queries = h.queries;
+  places = h.places;
+  suits = h.suits;
+  capacity = h.capacity;
+  workers = h.workers;
+  schedule = legal;
+  writers = h.writers;
+  askers = h.askers;
+  rounds = h.rounds;
+  rows = h.rows;
+  shifts = h.shifts;
+  moved = h.moved;
+}
+one_more command columns found (value.Writers n) h room legal = record {
+  queries = h.queries;
+  places = h.places;
+  suits = h.suits;
+  capacity = h.capacity;
+  workers = h.workers;
+  schedule = h.schedule;
+  writers = legal;
+  askers = h.askers;
+  rounds = h.rounds;
+  rows = h.rows;
+  shifts = h.shifts;
+  moved = h.moved;
+}
+one_more command columns found (value.Askers n) h room legal = record {
+  queries = h.queries;
+  places = h.places;
+  suits = h.suits;
+  capacity = h.capacity;
+  workers = h.workers;
+  schedule = h.schedule;
+  writers = h.writers;
+  askers = legal;
+  rounds = h.rounds;
+  rows = h.rows;
+  shifts = h.shifts;
+  moved = h.moved;
+}
+one_more command columns found (value.Rounds n) h room legal = record {
+  queries = h.queries;
+  places = h.places;
+  suits = h.suits;
+  capacity = h.capacity;
+  workers = h.workers;
+  schedule = h.schedule;
+  writers = h.writers;
+  askers = h.askers;
+  rounds = legal;
+  rows = h.rows;
+  shifts = h.shifts;
+  moved = h.moved;
+}
+one_more command columns found (value.Number n) h room legal = record {
+  queries = h.queries;
+  places = h.places;
+  suits = h.suits;
+  capacity = h.capacity;
+  workers = h.workers;
+  schedule = h.schedule;
+  writers = h.writers;
+  askers = h.askers;
+  rounds = h.rounds;
+  rows = h.rows;
+  shifts = h.shifts;
+  moved = h.moved;
+}
+one_more command columns found (value.Rows n) h room legal = record {
+  queries = h.queries;
+  places = h.places;
+  suits = h.suits;
+  capacity = h.capacity;
+  workers = h.workers;
+  schedule = h.schedule;
+  writers = h.writers;
+  askers = h.askers;
+  rounds = h.rounds;
+  rows = legal;
+  shifts = h.shifts;
+  moved = h.moved;
+}
+one_more command columns found (value.Shift s) h room legal = record {
+  queries = h.queries;
+  places = h.places;
+  suits = h.suits;
+  capacity = h.capacity;
+  workers = h.workers;
+  schedule = h.schedule;
+  writers = h.writers;
+  askers = h.askers;
+  rounds = h.rounds;
+  rows = h.rows;
+  shifts = omega (arith, room, length-append found.shifts (s ∷ []));
+  moved = All-push IsShift found.shifts s h.moved legal;
+}
+
+-- ---- the command
+
+unwrapped : (P : ℕ → Type 0) (o : Option ℕ) (d : ℕ) → IfSome o P → P d → P (unwrap_or o d)
+unwrapped P None d h p = p
+unwrapped P (Some x) d h p = h
+
+one_few : IsFew 1
+one_few = (omega arith, omega arith)
+
+two_few : IsFew 2
+two_few = (omega arith, omega arith)
+
+some_long : {A : Type 0} (xs : List A) → is_some_of xs ≡ true → 1 ≤ length xs
+some_long [] e = absurd cc
+some_long (x ∷ xs) e = omega arith
+
+most_queries : (command : CommandName) → most_times option.Query command ≤ 16
+most_queries name.Tamper = omega arith
+most_queries _ = omega arith
+
+common_legal : (command : CommandName) (columns : List Column) (found : Found) → IsFound command columns found
+    → Fits (bits_in columns) (largest_in (bits_in columns)) → is_some_of found.queries ≡ true → IsCommon (common_of columns found)
+common_legal command columns found h room some = record {
+  fits = unwrapped (Fits (bits_in columns)) found.capacity (largest_in (bits_in columns)) h.capacity room;
+  some = some_long found.queries some;
+  few = omega (arith, h.queries, most_queries command);
+  places = h.places;
+  suits = h.suits;
+  workers = unwrapped IsFew found.workers 1 h.workers one_few;
+}
+
+is_made : (c d : Command) (w : Result Command WordFault) → w ≡ Ok c → w ≡ Ok d → c ≡ d
+is_made c d w e f = cc
+
+with_room : (c : Common) (r : ℕ) → Fits (bits_in c.schema) r → IsCommon c → IsCommon (record c { capacity = r })
+with_room c r fits h = record {
+  fits = fits;
+  some = h.some;
+  few = h.few;
+  places = h.places;
+  suits = h.suits;
+  workers = h.workers;
+}
+
+legal_made : (common : Common) (number rows : Option ℕ) (c : Command) → IsCommon common → IfSome rows (Fits (bits_in common.schema))
+    → made common number rows ≡ Ok c → IsLegal c
+legal_made common None rows c h fits e = absurd cc
+legal_made common (Some n) None c h fits e = absurd cc
+legal_made common (Some n) (Some r) c h fits e =
+    subst IsLegal (is_made (commands.Make (record common { capacity = r }) n r) c _ refl e)
+    (record { common = with_room common r fits h; capacity = refl; fits = fits })
+
+legal_replayed : (common : Common) (schedule : Option (List Step)) (c : Command) → IsCommon common → IfSome schedule IsSchedule
+    → replayed common schedule ≡ Ok c → IsLegal c
+legal_replayed common None c h legal e = absurd cc
+legal_replayed common (Some s) c h legal e = subst IsLegal (is_made (commands.Replay common s) c _ refl e) (record { common = h; schedule = legal })
+
+legal_tampered : (common : Common) (shifts : List ShiftWord) (c : Command) → IsCommon common → length common.queries ≤ 1 → length shifts ≤ 16
+    → All IsShift shifts → tampered common shifts ≡ Ok c → IsLegal c
+legal_tampered common [] c h one few moved e = absurd cc
+legal_tampered common (s ∷ ss) c h one few moved e =
+    subst IsLegal (is_made (commands.Tamper common (s ∷ ss)) c _ refl e)
+    (record { common = h; single = omega (arith, h.some); some = omega arith; few = few; shifts = moved })
+
+legal_with : (command : CommandName) (columns : List Column) (found : Found) (c : Command) → IsFound command columns found
+    → IsCommon (common_of columns found) → command_with command columns found ≡ Ok c → IsLegal c
+legal_with name.Ask columns found c h common e = subst IsLegal (is_made (commands.Ask (common_of columns found)) c _ refl e) common
+legal_with name.Replay columns found c h common e = legal_replayed (common_of columns found) found.schedule c common h.schedule e
+legal_with name.Race columns found c h common e =
+    subst IsLegal (is_made (commands.Race (common_of columns found) (unwrap_or found.writers 2) (unwrap_or found.askers 2) (unwrap_or found.rounds 1)) c _ refl e)
+    (record {
+      common = common;
+      writers = unwrapped IsFew found.writers 2 h.writers two_few;
+      askers = unwrapped IsFew found.askers 2 h.askers two_few;
+      rounds = unwrapped IsFew found.rounds 1 h.rounds one_few;
+    })
+legal_with name.Make columns found c h common e = legal_made (common_of columns found) found.number found.rows c common h.rows e
+legal_with name.Trace columns found c h common e = subst IsLegal (is_made (commands.Trace (common_of columns found)) c _ refl e) common
+legal_with name.Tamper columns found c h common e = legal_tampered (common_of columns found) found.shifts c common h.queries h.shifts h.moved e
+
+legal_finished : (command : CommandName) (columns : List Column) (found : Found) (c : Command) → IsFound command columns found
+    → Fits (bits_in columns) (largest_in (bits_in columns)) → finished command columns found ≡ Ok c → IsLegal c
+unfolding finished
+legal_finished command columns found c h room e = by (is_some_of found.queries) refl e
+  where
+    by : (t : Bool) → is_some_of found.queries ≡ t
+        → (guard t (Missing (codes "--query")) >>= λ _. command_with command columns found) ≡ Ok c → IsLegal c
+    by false p q = absurd cc
+    by true p q = legal_with command columns found c h (common_legal command columns found h room p) q
+
+-- the command of options that are legal, where the greatest capacity fits
+pub legal_result : (command : CommandName) (columns : List Column) (found : Found) (r : Result Command WordFault) → IsFound command columns found
+    → Fits (bits_in columns) (largest_in (bits_in columns)) → Reads (λ c. c) r (finished command columns found) → IfOk r IsLegal
+legal_result command columns found (Err why) h room e = tt
+legal_result command columns found (Ok c) h room e = legal_finished command columns found c h room e
