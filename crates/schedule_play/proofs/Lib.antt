@@ -5,6 +5,7 @@ pub mod AskedQueries
 pub mod Cases
 pub mod Going
 pub mod Growing
+pub mod Keeping
 pub mod Kept
 pub mod Loops
 pub mod Outcomes

@@ -20,6 +20,7 @@ use Rattle.schedule_play.specs.Stages.{Stage, actor_in, event_of, next_stage, st
 use Rattle.schedule_play.specs.Tasks.{Setting, room_of}
 use Rattle.schedule_play.specs.declared.play.PlayFault.TheVariants.{NotAllowed, Memory}
 use Rattle.schedule_play.specs.declared.style.Style.{Style}
+use Rattle.schedule_play.specs.Wires.{RoseAt}
 use Rattle.schedule_play.proofs.Cases.{plain_is_plain, step_absent, step_is}
 use Rattle.schedule_play.proofs.Going.{rose_here, wires_none, wires_one, wires_still}
 
@@ -57,24 +58,24 @@ module _ (s : Setting) (style : Style) (stage : Stage) (x : Step) where
 module _ {W : Type 0} (told : W → Option (List Message)) (alterations : W → ℕ) (passes : W → List Message → W → Type 0) (none : NonePasses passes)
     (w : Widths) (s : Setting) (style : Style) (stage : Stage) (x : Step) (vs : List W) where
   -- what a step opened over its wire
-  plain_one : (event : Event) (ms : List Message) (pair : OpenedPair) (v u : W) → event_of s stage x ≡ Some event → actor_in x < length vs → v ≡ get_or vs (actor_in x) v
+  plain_one : (event : Event) (ms : List Message) (pair : OpenedPair) (i : ℕ) (v u : W) → event_of s stage x ≡ Some event → actor_in x ≡ i → i < length vs → v ≡ get_or vs i v
       → ((Rose (alterations v) (alterations u) → ⊥) → IsPlain stage.core event pair)
-      → ArePlain (IsStill alterations vs (set vs (actor_in x) u)) s style stage (entry x ms pair ∷ [])
-  plain_one event ms pair v u e there is plain = (
-    λ still. subst (λ (o : Option Event). IsPlainOf stage o pair) (sym e) (plain (λ rose. still (rose_here told alterations passes (actor_in x) vs v u there is rose))),
+      → ArePlain (IsStill alterations vs (set vs i u)) s style stage (entry x ms pair ∷ [])
+  plain_one event ms pair i v u e own there is plain = (
+    λ still. subst (λ (o : Option Event). IsPlainOf stage o pair) (sym e) (plain (λ rose. still (subst (λ (j : ℕ). RoseAt alterations j vs (set vs i u)) (sym own) (rose_here told alterations passes i vs v u there is rose)))),
     some_if (next_stage s style stage x pair),
   )
 
   -- a step that was done
-  pub step_leads : (event : Event) (ms : List Message) (pair : OpenedPair) (core : Core) (reply : Reply) (v u : W) (end : Stage) → event_of s stage x ≡ Some event
+  pub step_leads : (event : Event) (ms : List Message) (pair : OpenedPair) (core : Core) (reply : Reply) (i : ℕ) (v u : W) (end : Stage) → event_of s stage x ≡ Some event
       → Carries w stage.core event ms pair → step (room_of s) stage.core event pair ≡ Some (core, reply) → end ≡ with_reply s style stage x (core, reply)
-      → actor_in x < length vs → v ≡ get_or vs (actor_in x) v → Went told alterations passes v ms u → (is_answer x ≡ false → u ≡ v)
+      → actor_in x ≡ i → i < length vs → v ≡ get_or vs i v → Went told alterations passes v ms u → (is_answer x ≡ false → u ≡ v)
       → ((Rose (alterations v) (alterations u) → ⊥) → IsPlain stage.core event pair)
-      → Leads told alterations passes w s style stage vs (x ∷ []) end (set vs (actor_in x) u)
-  step_leads event ms pair core reply v u end e carries does is_end there is went quiet plain = record {
+      → Leads told alterations passes w s style stage vs (x ∷ []) end (set vs i u)
+  step_leads event ms pair core reply i v u end e carries does is_end own there is went quiet plain = record {
     history = entry x ms pair ∷ [];
-    sent = wires_one told alterations passes none (entry x ms pair) 0 (actor_in x) vs v u there is (sym (zero-add (actor_in x))) went quiet;
-    plain = plain_one event ms pair v u e there is plain;
+    sent = wires_one told alterations passes none (entry x ms pair) 0 i vs v u there is (own ∙ sym (zero-add i)) went quiet;
+    plain = plain_one event ms pair i v u e own there is plain;
     advances = (
       refl,
       subst (λ (o : Option Event). CarriesOf w s stage o (entry x ms pair)) (sym e) carries,
@@ -83,15 +84,15 @@ module _ {W : Type 0} (told : W → Option (List Message)) (alterations : W → 
   }
 
   -- a step that was done, but for its line
-  pub step_unreported : (t : ℕ) (event : Event) (ms : List Message) (pair : OpenedPair) (core : Core) (reply : Reply) (v u : W) → event_of s stage x ≡ Some event
+  pub step_unreported : (t : ℕ) (event : Event) (ms : List Message) (pair : OpenedPair) (core : Core) (reply : Reply) (i : ℕ) (v u : W) → event_of s stage x ≡ Some event
       → Carries w stage.core event ms pair → step (room_of s) stage.core event pair ≡ Some (core, reply)
-      → actor_in x < length vs → v ≡ get_or vs (actor_in x) v → Went told alterations passes v ms u → (is_answer x ≡ false → u ≡ v)
+      → actor_in x ≡ i → i < length vs → v ≡ get_or vs i v → Went told alterations passes v ms u → (is_answer x ≡ false → u ≡ v)
       → ((Rose (alterations v) (alterations u) → ⊥) → IsPlain stage.core event pair)
-      → Stops told alterations passes w s style t stage vs (x ∷ []) (set vs (actor_in x) u) Memory
-  step_unreported t event ms pair core reply v u e carries does there is went quiet plain = record {
+      → Stops told alterations passes w s style t stage vs (x ∷ []) (set vs i u) Memory
+  step_unreported t event ms pair core reply i v u e carries does own there is went quiet plain = record {
     history = entry x ms pair ∷ [];
-    sent = wires_one told alterations passes none (entry x ms pair) 0 (actor_in x) vs v u there is (sym (zero-add (actor_in x))) went quiet;
-    plain = plain_one event ms pair v u e there is plain;
+    sent = wires_one told alterations passes none (entry x ms pair) 0 i vs v u there is (own ∙ sym (zero-add i)) went quiet;
+    plain = plain_one event ms pair i v u e own there is plain;
     ends = (
       refl,
       inl (
@@ -102,15 +103,15 @@ module _ {W : Type 0} (told : W → Option (List Message)) (alterations : W → 
   }
 
   -- a step whose messages were begun
-  pub step_begun : (t : ℕ) (event : Event) (ms : List Message) (v u : W) → event_of s stage x ≡ Some event → Begins w stage.core event ms
-      → actor_in x < length vs → v ≡ get_or vs (actor_in x) v → Went told alterations passes v ms u → (is_answer x ≡ false → u ≡ v)
-      → Stops told alterations passes w s style t stage vs (x ∷ []) (set vs (actor_in x) u) Memory
-  step_begun t event ms v u e begins there is went quiet =
+  pub step_begun : (t : ℕ) (event : Event) (ms : List Message) (i : ℕ) (v u : W) → event_of s stage x ≡ Some event → Begins w stage.core event ms
+      → actor_in x ≡ i → i < length vs → v ≡ get_or vs i v → Went told alterations passes v ms u → (is_answer x ≡ false → u ≡ v)
+      → Stops told alterations passes w s style t stage vs (x ∷ []) (set vs i u) Memory
+  step_begun t event ms i v u e begins own there is went quiet =
       let pair = plain_of stage.core (Some event) in
       record {
         history = entry x ms pair ∷ [];
-        sent = wires_one told alterations passes none (entry x ms pair) 0 (actor_in x) vs v u there is (sym (zero-add (actor_in x))) went quiet;
-        plain = plain_one event ms pair v u e there is (λ still. plain_is_plain stage.core event);
+        sent = wires_one told alterations passes none (entry x ms pair) 0 i vs v u there is (own ∙ sym (zero-add i)) went quiet;
+        plain = plain_one event ms pair i v u e own there is (λ still. plain_is_plain stage.core event);
         ends = (refl, inr (subst (λ (o : Option Event). BeginsOf w s stage o (entry x ms pair)) (sym e) begins, refl));
       }
 
@@ -118,7 +119,7 @@ module _ {W : Type 0} (told : W → Option (List Message)) (alterations : W → 
   pub step_refused : (t : ℕ) → HasNoCase s style stage x → Stops told alterations passes w s style t stage vs (x ∷ []) vs (NotAllowed t)
   step_refused t never = record { history = []; sent = wires_none told alterations passes none 0 vs; plain = tt; ends = (never, omega arith, omega arith) }
 
-  pub step_refused_at : (t : ℕ) (v u : W) → HasNoCase s style stage x → v ≡ get_or vs (actor_in x) v → u ≡ v
-      → Stops told alterations passes w s style t stage vs (x ∷ []) (set vs (actor_in x) u) (NotAllowed t)
-  step_refused_at t v u never is same =
-      record { history = []; sent = wires_still told alterations passes none (actor_in x) vs v u is same; plain = tt; ends = (never, omega arith, omega arith) }
+  pub step_refused_at : (t : ℕ) (i : ℕ) (v u : W) → HasNoCase s style stage x → v ≡ get_or vs i v → u ≡ v
+      → Stops told alterations passes w s style t stage vs (x ∷ []) (set vs i u) (NotAllowed t)
+  step_refused_at t i v u never is same =
+      record { history = []; sent = wires_still told alterations passes none i vs v u is same; plain = tt; ends = (never, omega arith, omega arith) }

@@ -11,12 +11,14 @@ use Rattle.schedule_play.specs.declared.progress.Progress.{Progress}
 abbrev pub stage_of : Progress → Stage
 stage_of p = record { core = p.machine.core; rounds = p.rounds; lines = p.report; altered = p.altered }
 
--- the machine is of these widths, has room for all rows and has 16 actors; and no actor has more `ask` lines than steps were done
+-- the machine is of these widths, has room for all rows and has 16 actors; the rows that were drawn are counted; and they are no more
+-- than the steps that were done, as are each actor's `ask` lines
 pub record IsReady (w : Widths) (s : Setting) (p : Progress) : Type 0 where
   pub widths : p.machine.widths ≡ w
   pub capacity : p.machine.capacity ≡ room_of s
   pub actors : length p.machine.core.actors ≡ 16
   pub drawn : p.drawn ≡ length p.machine.core.order
+  pub few : p.drawn ≤ p.done
   pub rounds : (actor : ℕ) → slice_index_or p.rounds actor 0 ≤ p.done
 
 -- the replies of a draw

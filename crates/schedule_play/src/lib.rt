@@ -4,6 +4,7 @@
 //! each query; `replay` has its schedule. Each step is an event of the machine. The first step without a case ends the run.
 #![tactic(auto)]
 
+pub mod laws;
 mod play;
 mod progress;
 mod setting;

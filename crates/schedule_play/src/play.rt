@@ -59,7 +59,7 @@ fn append_rows<R: Threads + Sync, W: Wire>(
     ensures ready { OnOk result (IsReady setting.now.widths (seen setting.now) progress.new) }
     ensures done { OnOk result (progress.new.done ≡ 4 * length setting.now.rows.now) }
     ensures leads { OnOk result (Leads W.told W.alterations W.passes setting.now.widths (seen setting.now) styles.Queries (stage_of progress.old) wires.old.items (flat_map (λ (row : ℕ). append_steps) (range_with_len 0 (length setting.now.rows.now))) (stage_of progress.new) wires.new.items) }
-    ensures stops { IfErr result (Stops W.told W.alterations W.passes setting.now.widths (seen setting.now) styles.Queries 0 (stage_of progress.old) wires.old.items (flat_map (λ (row : ℕ). append_steps) (range_with_len 0 (length setting.now.rows.now))) wires.new.items) }
+    ensures stops { IfErr result (Stops W.told W.alterations W.passes setting.now.widths (seen setting.now) styles.Queries progress.old.done (stage_of progress.old) wires.old.items (flat_map (λ (row : ℕ). append_steps) (range_with_len 0 (length setting.now.rows.now))) wires.new.items) }
 {
     let steps = [
         Step::Draw { actor: 0 },

@@ -1,5 +1,5 @@
 //! A machine on which steps are done one after another, and what is reported of them.
-ghost use Rattle.std.specs.Prelude.{◌≡◌, ◌+◌, ◌^◌, ◌<◌, ◌≤◌, [], ◌∷◌, ◌++◌, if◌then◌else◌, IfErr, IfOk, OnErr, OnOk, length, option_to_list, slice_get, slice_set, slice_index_or};
+ghost use Rattle.std.specs.Prelude.{ℕ, ◌≡◌, ◌+◌, ◌^◌, ◌<◌, ◌≤◌, [], ◌∷◌, ◌++◌, if◌then◌else◌, IfErr, IfOk, OnErr, OnOk, length, option_to_list, slice_get, slice_set, slice_index_or};
 ghost use Rattle.schedule_play.specs.Leads.{Leads, Stops};
 ghost use Rattle.schedule_play.specs.Plays.{seen};
 ghost use Rattle.schedule_play.specs.Stages.{actor_in, event_of, first_stage, is_altered, is_asked, lines_of, with_reply};
@@ -113,7 +113,7 @@ impl Progress {
         requires actor { actor_in step < 16 }
         requires few { self.old.done < 2 ^ 40 }
         requires rounds { (actor : ℕ) → slice_index_or self.old.rounds actor 0 ≤ self.old.done }
-        requires drawn { self.old.drawn ≤ 2 ^ 40 }
+        requires drawn { self.old.drawn ≤ self.old.done }
         ensures stage { OnOk result (stage_of self.new ≡ with_reply (seen setting.now) style (stage_of self.old) step (self.old.machine.core, reply)) }
         ensures machine { self.new.machine ≡ self.old.machine }
         ensures rounds { OnOk result ((actor : ℕ) → slice_index_or self.new.rounds actor 0 ≤ self.new.done) }

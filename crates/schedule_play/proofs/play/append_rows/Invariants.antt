@@ -6,6 +6,6 @@ use Rattle.schedule_play.specs.declared.style.Style.TheVariants.{Queries}
 use Rattle.schedule_play.proofs.Kept.{Kept}
 use Rattle.schedule_play.proofs.play.append_rows.Given as goal
 
-abbrev pub invariant-loop-_row : goal.invariant-loop-_row
-invariant-loop-_row g l = Kept g.W.Wire.told g.W.Wire.alterations g.W.Wire.passes l.setting.widths (seen l.setting) Queries
+abbrev pub invariant-loop-row : goal.invariant-loop-row
+invariant-loop-row g l = Kept g.W.Wire.told g.W.Wire.alterations g.W.Wire.passes l.setting.widths (seen l.setting) Queries
     l.initial.progress l.initial.wires.items (flat_map (λ (row : ℕ). append_steps) (range_with_len 0 l._row)) l.progress l.wires.items
