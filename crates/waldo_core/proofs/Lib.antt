@@ -1,0 +1,12 @@
+pub mod Acts
+pub mod Answering
+pub mod Drawn
+pub mod Elements
+pub mod Fixing
+pub mod Looked
+pub mod OverRows
+pub mod Placed
+pub mod Plainly
+pub mod Prefixes
+pub mod Shares
+pub mod Stays

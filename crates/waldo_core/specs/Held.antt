@@ -163,14 +163,15 @@ pub record AgreesAfter (held : Snapshot → Held) (logs : Logs) (old : Snapshots
   pub one : Snapshot
   pub two : Snapshot
   pub before : old ≡ found.Second zero one
+  pub legal : IsLog logs.two
   pub third : IsFixOf (held two) logs.two
   pub cuts : AreCuts (held zero) (held one) (held two) (held a.zero) (held a.one) (held a.two)
 
 -- what the fixes have found after one more: nothing, or a snapshot beside those from before
 abbrev pub Kept : (Snapshot → Held) → Logs → Snapshots → Snapshots → Type 0
 Kept held logs old found.Unfixed = ⊤
-Kept held logs old (found.First s) = IsFixOf (held s) logs.zero
-Kept held logs old (found.Second s t) = (old ≡ found.First s) × IsFixOf (held t) logs.one
+Kept held logs old (found.First s) = IsLog logs.zero × IsFixOf (held s) logs.zero
+Kept held logs old (found.Second s t) = (old ≡ found.First s) × IsLog logs.one × IsFixOf (held t) logs.one
 Kept held logs old (found.Agreed a) = AgreesAfter held logs old a
 
 -- a fix
