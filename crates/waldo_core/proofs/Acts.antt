@@ -1,5 +1,5 @@
 -- What an actor's step does to the machine.
-use Rattle.std.proofs.Common.{◌≡◌, ◌∙◌, refl, sym, ap, subst, ℕ, ◌<◌, ◌≤◌, ◌⊎◌, inl, inr, ⊎_elim, Option, Some, None, slice_get, List, [], length, set, map, tt, arith}
+use Rattle.std.proofs.Common.{◌≡◌, ◌∙◌, refl, sym, ap, subst, ℕ, ◌<◌, ◌≤◌, ◌⊎◌, inl, inr, ⊎_elim, Option, Some, None, slice_get, List, [], length, set, map, arith}
 use Rattle.std.specs.Prelude.{Result, Ok, Err, option_map}
 use Rattle.std.proofs.lemmas.List.{length-map, map-set}
 use Rattle.std.proofs.lemmas.Option.{slice_get-map, slice_get_past}
@@ -22,9 +22,6 @@ use Rattle.waldo_core.proofs.Stays.{legal_stays}
 pub seen_there : (held : Snapshot → Held) (t : Table) (i : ℕ) (a : ActorState) → slice_get t.actors i ≡ Some a → slice_get (core_of held t).actors i ≡ Some (seen_actor held a)
 seen_there held t i a here = slice_get-map (seen_actor held) t.actors i ∙ ap (option_map (seen_actor held)) here
 
-pub seen_past : (held : Snapshot → Held) (t : Table) (i : ℕ) → length t.actors ≤ i → slice_get (core_of held t).actors i ≡ None
-seen_past held t i past = slice_get-map (seen_actor held) t.actors i ∙ ap (option_map (seen_actor held)) (slice_get_past t.actors i past)
-
 pub legal_there : (held : Snapshot → Held) (space : ℕ) (t : Table) (i : ℕ) (a : ActorState) → IsMachine held space t → slice_get t.actors i ≡ Some a → IsActor (core_of held t) (seen_actor held a)
 legal_there held space t i a ok here = All-there (IsActor (core_of held t)) (core_of held t).actors i (seen_actor held a) ok.legal.actors (seen_there held t i a here)
 
@@ -32,11 +29,7 @@ legal_there held space t i a ok here = All-there (IsActor (core_of held t)) (cor
 pub seen_set : (held : Snapshot → Held) (t : Table) (i : ℕ) (b : ActorState) → map (seen_actor held) (set t.actors i b) ≡ set (map (seen_actor held) t.actors) i (seen_actor held b)
 seen_set held t i b = map-set (seen_actor held) t.actors i b
 
--- an event of an actor that is not there, or for which it has no case
-pub past_case : (held : Snapshot → Held) (t : Table) (event : Event) → ((capacity : ℕ) (core : Core) (pair : OpenedPair) → acts capacity core event pair None ≡ None)
-    → length t.actors ≤ actor_of event → HasNoCase (seen_machine held t) event
-past_case held t event none past = inr (λ pair. ap (acts t.capacity (core_of held t) event pair) (seen_past held t (actor_of event) past) ∙ none t.capacity (core_of held t) pair)
-
+-- an event for which its actor has no case
 pub no_case : (held : Snapshot → Held) (t : Table) (event : Event) (a : ActorState) → HasNone (seen_actor held a) event → slice_get t.actors (actor_of event) ≡ Some a
     → HasNoCase (seen_machine held t) event
 no_case held t event a none here = inr (λ pair. ap (acts t.capacity (core_of held t) event pair) (seen_there held t (actor_of event) a here) ∙ none t.capacity (core_of held t) pair)

@@ -1,5 +1,5 @@
 -- An answer.
-use Rattle.std.proofs.Common.{◌≡◌, ◌∙◌, refl, sym, ap, subst, ℕ, ◌≤◌, inl, inr, Option, Some, None, slice_get, List, [], map, length, tt}
+use Rattle.std.proofs.Common.{◌≡◌, ◌∙◌, refl, sym, ap, subst, ℕ, ◌≤◌, inl, inr, Option, Some, None, slice_get, List, [], map, length, arith}
 use Rattle.std.specs.Prelude.{Result, Ok, Err, option_map}
 use Rattle.prefix_log.specs.declared.snapshot.Snapshot.{Snapshot}
 use Rattle.prg_chacha.specs.declared.seed.Seed.{Seed}
@@ -13,13 +13,17 @@ use Rattle.wire_line.specs.declared.message.Message.{Message}
 use Rattle.waldo_core.specs.Answers.{Begins, BeginsOver, Carries, IsPlain, IsPlainOver, Opens, OpensOver, agreed_in, rows_agreed}
 use Rattle.waldo_core.specs.Core.{Actor, Core, Fixes}
 use Rattle.waldo_core.specs.Core.Fixes.{Unfixed, First, Second, Agreed}
-use Rattle.waldo_core.specs.Held.{Table, core_of, seen_actor, seen_fixes, seen_machine}
+use Rattle.waldo_core.specs.Held.{AgreeOn, AreFirst, IsAgreement, IsMachine, Table, core_of, seen_actor, seen_fixes, seen_machine}
 use Rattle.waldo_core.specs.Machines.{HasNoCase, Seen, Stepped}
 use Rattle.waldo_core.specs.Outcomes.{named}
 use Rattle.waldo_core.specs.Step.{acts, answer_step, answered, step}
 use Rattle.waldo_core.specs.declared.actor.ActorState.{ActorState}
 use Rattle.waldo_core.specs.declared.events.Event.TheVariants as events
 use Rattle.waldo_core.specs.declared.events.Reply.{Reply}
+use Rattle.waldo_core.specs.declared.snapshots.Agreement.{Agreement}
+use Rattle.waldo_core.specs.declared.snapshots.Snapshots.{Snapshots}
+use Rattle.waldo_core.specs.declared.snapshots.Snapshots.TheVariants as found
+use Rattle.waldo_core.proofs.Acts.{seen_there}
 
 -- ---- the core
 
@@ -45,6 +49,29 @@ none_by_actor : (capacity number : ℕ) (core : Core) (o : Option Actor) (query 
 none_by_actor capacity number core None query seed pair e = refl
 none_by_actor capacity number core (Some a) query seed pair e = none_by_fixes core a.fixes query seed pair e
 
+-- ---- what was agreed on
+
+pub agreement_there : (held : Snapshot → Held) (space : ℕ) (t : Table) (i : ℕ) (a : ActorState) (g : Agreement) (old : Seen) → IsMachine held space t → slice_get t.actors i ≡ Some a
+    → a.snapshots ≡ found.Agreed g → seen_machine held t ≡ old → IsAgreement held old i g
+agreement_there held space t i a g old ok here is view =
+    let first : AgreeOn t.widths t.order (held g.zero).rows (held g.zero) (held g.one) (held g.two) = subst (λ (s : Snapshots). AreFirst held t.widths t.order s) is (ok.actors i a here).first in
+    subst (λ (v : Seen). IsAgreement held v i g) view (record {
+      agreed = ap rows_agreed (seen_there held t i a here) ∙ ap (λ (s : Snapshots). agreed_in (seen_fixes held s)) is;
+      few = omega (arith, first.zero.few, ok.few, ok.fits.1);
+      first = first;
+    })
+
+not_agreed_in : (held : Snapshot → Held) (s : Snapshots) → ((g : Agreement) → s ≡ found.Agreed g → ⊥) → agreed_in (seen_fixes held s) ≡ None
+not_agreed_in held found.Unfixed other = refl
+not_agreed_in held (found.First s) other = refl
+not_agreed_in held (found.Second s t) other = refl
+not_agreed_in held (found.Agreed g) other = absurd (other g refl)
+
+pub no_agreement : (held : Snapshot → Held) (t : Table) (i : ℕ) (a : ActorState) (old : Seen) → slice_get t.actors i ≡ Some a → ((g : Agreement) → a.snapshots ≡ found.Agreed g → ⊥)
+    → seen_machine held t ≡ old → rows_agreed (slice_get old.core.actors i) ≡ None
+no_agreement held t i a old here other view =
+    subst (λ (v : Seen). rows_agreed (slice_get v.core.actors i) ≡ None) view (ap rows_agreed (seen_there held t i a here) ∙ not_agreed_in held a.snapshots other)
+
 -- ---- the machine
 
 module _ (m : Seen) (number : ℕ) (query : Query) (seed : Seed) where
@@ -53,7 +80,7 @@ module _ (m : Seen) (number : ℕ) (query : Query) (seed : Seed) where
   not_agreed none pair = (refl, refl, inr (λ p. none_by_actor m.capacity number m.core (slice_get m.core.actors number) query seed p none), refl)
 
   pub not_suited : ¬ Suits m.widths.columns m.widths.bits query → (pair : OpenedPair) → Stepped m (events.Answer number query seed) [] pair m (named (events.Answer number query seed) (Ok None))
-  not_suited no pair = (refl, refl, inl no, refl)
+  not_suited unfit pair = (refl, refl, inl unfit, refl)
 
   module _ (n : ℕ) (agreed : rows_agreed (slice_get m.core.actors number) ≡ Some n) where
     pub begun : (ms : List Message) → BeginsOver m.widths m.core.order (Some n) query seed ms → Begins m.widths m.core (events.Answer number query seed) ms

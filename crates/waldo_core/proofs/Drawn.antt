@@ -1,5 +1,5 @@
 -- A draw.
-use Rattle.std.proofs.Common.{◌≡◌, ◌∙◌, refl, sym, ap, subst, ℕ, zero, suc, ◌+◌, ◌<◌, ◌≤◌, ◌⊎◌, ⊎_elim, Bool, true, false, Option, Some, None, slice_get, List, [], ◌∷◌, ◌++◌, All, length, set, map, tt, arith}
+use Rattle.std.proofs.Common.{◌≡◌, ◌∙◌, refl, sym, ap, subst, ℕ, zero, suc, ◌+◌, ◌<◌, ◌≤◌, ◌⊎◌, ⊎_elim, Bool, true, false, Option, Some, None, slice_get, List, [], ◌∷◌, ◌++◌, All, length, set, map, arith}
 use Rattle.std.specs.Prelude.{Result, Ok, Err, is_some, not, nat_lt, ◌||◌, if◌then◌else◌}
 use Rattle.std.proofs.lemmas.Bool.{lt-ltb, le-ltb}
 use Rattle.std.proofs.lemmas.List.{length-append}
@@ -16,7 +16,8 @@ use Rattle.table_schema.specs.declared.rows.Row.{Row}
 use Rattle.table_schema.specs.declared.widths.Widths.{Widths}
 use Rattle.waldo_core.specs.Core.{Actor, Core, is_pending}
 use Rattle.waldo_core.specs.Core.Fixes.{Unfixed}
-use Rattle.waldo_core.specs.Held.{HasNone, HoldsShares, IsActorOf, IsMachine, IsShareAt, Table, core_of, log_of, piece_for, seen_actor, seen_machine}
+use Rattle.waldo_core.specs.Held.{HoldsShares, IsActorOf, IsMachine, IsShareAt, Table, core_of, log_of, piece_for, seen_actor, seen_machine}
+use Rattle.waldo_core.specs.Machines.{Seen, Stepped}
 use Rattle.waldo_core.specs.Outcomes.{Quietly, named}
 use Rattle.waldo_core.specs.Step.{acts, drawn, step}
 use Rattle.waldo_core.specs.declared.actor.ActorState.{ActorState}
@@ -25,19 +26,12 @@ use Rattle.waldo_core.specs.declared.events.Event.TheVariants as events
 use Rattle.waldo_core.specs.declared.events.Reply.{Reply}
 use Rattle.waldo_core.specs.declared.events.Reply.TheVariants as replies
 use Rattle.waldo_core.specs.declared.snapshots.Snapshots.TheVariants as found
-use Rattle.waldo_core.proofs.Acts.{no_case, past_case, seen_set, seen_there}
+use Rattle.waldo_core.proofs.Acts.{seen_set, seen_there}
 use Rattle.waldo_core.proofs.Elements.{slice_get-set, slice_get_last}
 use Rattle.waldo_core.proofs.Shares.{actor_grows, server_grows}
 use Rattle.waldo_core.proofs.Stays.{legal_stays}
 
--- an actor that may not draw has no case
-pub no_draw : (a : Actor) (row : Row) (seed : Seed) → not (is_some a.draw || is_pending a.fixes) ≡ false → (number : ℕ) → HasNone a (events.Draw number row seed)
-no_draw a row seed busy number capacity core pair = by (is_some a.draw || is_pending a.fixes) busy
-  where
-    by : (b : Bool) → not b ≡ false → (if b then None else Some (drawn capacity core number a (row, seed))) ≡ None
-    by true e = refl
-    by false e = absurd cc
-
+-- an actor that may draw draws
 does_draw : (a : Actor) (row : Row) (seed : Seed) → not (is_some a.draw || is_pending a.fixes) ≡ true → (capacity number : ℕ) (core : Core) (pair : OpenedPair)
     → acts capacity core (events.Draw number row seed) pair (Some a) ≡ Some (drawn capacity core number a (row, seed))
 does_draw a row seed free capacity number core pair = by (is_some a.draw || is_pending a.fixes) free
@@ -79,20 +73,12 @@ new_shares w order row seed draw place has k piece lt e = by k lt e
 
 module _ (held : Snapshot → Held) (space : ℕ) (t : Table) (i : ℕ) (row : Row) (seed : Seed) (a : ActorState) (here : slice_get t.actors i ≡ Some a)
     (free : not (is_some (seen_actor held a).draw || is_pending (seen_actor held a).fixes) ≡ true) where
-  -- there are as many rows as the machine takes
-  pub full_done : t.capacity ≤ length t.order → Quietly (seen_machine held t) (events.Draw i row seed) (seen_machine held t) (Ok (Some (replies.Full t.capacity)))
-  full_done all pair = (tt, refl,
-      ap (acts t.capacity (core_of held t) (events.Draw i row seed) pair) (seen_there held t i a here)
-      ∙ does_draw (seen_actor held a) row seed free t.capacity i (core_of held t) pair
-      ∙ (rw (le-ltb (length t.order) t.capacity all) refl),
-      refl)
-
   module _ (ok : IsMachine held space t) (draw : OpenDraw) (left : length t.order < t.capacity) (place : draw.place ≡ length t.order) (holds : Holds t.widths row)
       (has : HasPieces t.widths row seed draw) where
-    b : ActorState
+    abbrev pub b : ActorState
     b = record { floor = a.floor; draw = Some draw; snapshots = found.Unfixed }
 
-    next : Table
+    abbrev pub next : Table
     next = record t { order = t.order ++ (row, seed) ∷ []; actors = set t.actors i b }
 
     -- the new actor as the core sees it
@@ -128,13 +114,25 @@ module _ (held : Snapshot → Held) (space : ℕ) (t : Table) (i : ℕ) (row : R
       legal = legal_stays.1 t.capacity (core_of held t) _ (events.Draw i row seed) (record { total = 0; weighted = 0 }) (replies.Drew (length t.order)) ok.legal (steps (record { total = 0; weighted = 0 }));
     }
 
-    pub drawn_done : Quietly (seen_machine held t) (events.Draw i row seed) (seen_machine held next) (Ok (Some (replies.Drew (length t.order))))
-    drawn_done pair = (tt, refl, steps pair, refl)
+  -- the machine as the code leaves it
+  module _ (ok : IsMachine held space t) (draw : OpenDraw) (left : length t.order < t.capacity) (place : draw.place ≡ length t.order) (holds : Holds t.widths row)
+      (has : HasPieces t.widths row seed draw) (order : List (Row × Seed)) (later : ℕ) (actor : ActorState) (pushed : order ≡ t.order ++ (row, seed) ∷ []) (room : later ≡ space)
+      (again : ActorState) (same : again ≡ a) (begun : actor ≡ record { floor = again.floor; draw = Some draw; snapshots = found.Unfixed }) where
+    abbrev pub after : Table
+    after = record t { order = order; actors = set t.actors i actor }
 
--- an actor that may not draw, and one that is not there
-pub busy_done : (held : Snapshot → Held) (t : Table) (i : ℕ) (row : Row) (seed : Seed) (a : ActorState) → slice_get t.actors i ≡ Some a
-    → not (is_some (seen_actor held a).draw || is_pending (seen_actor held a).fixes) ≡ false → Quietly (seen_machine held t) (events.Draw i row seed) (seen_machine held t) (Ok None)
-busy_done held t i row seed a here busy pair = (refl, refl, no_case held t (events.Draw i row seed) a (no_draw (seen_actor held a) row seed busy i) here, refl)
+    is_next : after ≡ next ok draw left place holds has
+    is_next =
+        ap (λ (o : List (Row × Seed)). record t { order = o; actors = set t.actors i actor }) pushed
+        ∙ ap (λ (x : ActorState). record t { order = t.order ++ (row, seed) ∷ []; actors = set t.actors i x })
+        (begun ∙ ap (λ (x : ActorState). record { floor = x.floor; draw = Some draw; snapshots = found.Unfixed }) same)
 
-pub drawn_past : (held : Snapshot → Held) (t : Table) (i : ℕ) (row : Row) (seed : Seed) → length t.actors ≤ i → Quietly (seen_machine held t) (events.Draw i row seed) (seen_machine held t) (Ok None)
-drawn_past held t i row seed past pair = (refl, refl, past_case held t (events.Draw i row seed) (λ capacity core q. refl) past, refl)
+    pub kept_after : IsMachine held later after
+    kept_after = subst (λ (n : ℕ). IsMachine held n after) (sym room) (subst (λ (x : Table). IsMachine held space x) (sym is_next) (drawn_kept ok draw left place holds has))
+
+    pub done_after : (old : Seen) → seen_machine held t ≡ old → Quietly old (events.Draw i row seed) (seen_machine held after) (Ok (Some (replies.Drew draw.place)))
+    done_after old view pair =
+        let said : step t.capacity (core_of held t) (events.Draw i row seed) pair ≡ Some (core_of held after, replies.Drew draw.place) =
+        steps ok draw left place holds has pair ∙ ap (λ (x : Table). Some (core_of held x, replies.Drew (length t.order))) (sym is_next)
+        ∙ ap (λ (n : ℕ). Some (core_of held after, replies.Drew n)) (sym place) in
+        subst (λ (v : Seen). Stepped v (events.Draw i row seed) [] pair (seen_machine held after) (Ok (replies.Drew draw.place))) view (tt, refl, said, refl)

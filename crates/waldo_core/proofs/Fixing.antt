@@ -1,5 +1,5 @@
 -- A fix.
-use Rattle.std.proofs.Common.{◌≡◌, ◌∙◌, refl, sym, ap, subst, ℕ, zero, suc, ◌<◌, ◌≤◌, Bool, true, false, Option, Some, None, slice_get, List, length, min, set, tt, arith}
+use Rattle.std.proofs.Common.{◌≡◌, ◌∙◌, refl, sym, ap, subst, ℕ, zero, suc, ◌<◌, ◌≤◌, Bool, true, false, Option, Some, None, slice_get, List, length, min, set, arith}
 use Rattle.std.specs.Prelude.{Result, Ok, Err, nat_lt, if◌then◌else◌}
 use Rattle.std.proofs.lemmas.Bool.{lt-ltb, le-ltb}
 use Rattle.prefix_log.specs.Logs.{IsLog, Log}
@@ -11,7 +11,9 @@ use Rattle.table_schema.specs.declared.rows.Row.{Row}
 use Rattle.table_schema.specs.declared.widths.Widths.{Widths}
 use Rattle.waldo_core.specs.Core.{Actor, Core, prefix, with_actor}
 use Rattle.waldo_core.specs.Held.{AgreeOn, AgreesAfter, AreCuts, AreFirst, Fixed, IsActorOf, IsFixOf, IsMachine, IsServer, Keeps, Kept, KeepsFirst, Table, core_of, log_of, next_server_of, seen_actor, seen_fixes, seen_machine}
+use Rattle.waldo_core.specs.Machines.{Seen}
 use Rattle.waldo_core.specs.Outcomes.{Quietly, named}
+use Rattle.waldo_core.specs.declared.snapshots.Agreement.{Agreement}
 use Rattle.waldo_core.specs.Step.{acts, fix_step, step}
 use Rattle.waldo_core.specs.declared.actor.ActorState.{ActorState}
 use Rattle.waldo_core.specs.declared.events.Event.TheVariants as events
@@ -20,7 +22,7 @@ use Rattle.waldo_core.specs.declared.events.Reply.TheVariants as replies
 use Rattle.waldo_core.specs.declared.logs.Logs.{Logs}
 use Rattle.waldo_core.specs.declared.snapshots.Snapshots.{Snapshots}
 use Rattle.waldo_core.specs.declared.snapshots.Snapshots.TheVariants as found
-use Rattle.waldo_core.proofs.Acts.{no_case, past_case, same_table, seen_set, seen_there, stays}
+use Rattle.waldo_core.proofs.Acts.{seen_set, seen_there, stays}
 use Rattle.waldo_core.proofs.Shares.{cut_keeps, fix_keeps}
 
 -- ---- the actor's part
@@ -33,10 +35,10 @@ found_by logs s = prefix (log_of logs (next_server_of s)).journal
 pub does_again : (held : Snapshot → Held) (logs : Logs) (a b : ActorState) (s : Snapshots) → a.snapshots ≡ s → found_by logs s < a.floor → b ≡ record a { snapshots = found.Unfixed }
     → (capacity number : ℕ) (core : Core) (pair : OpenedPair) → core.zero ≡ logs.zero.journal → core.one ≡ logs.one.journal → core.two ≡ logs.two.journal
     → acts capacity core (events.Fix number) pair (Some (seen_actor held a)) ≡ Some (with_actor core number (seen_actor held b), replies.Again (next_server_of s) (found_by logs s) a.floor)
-does_again held logs a b found.Unfixed was lt is capacity number core pair zero one two = rw (is, was, zero, lt-ltb (prefix logs.zero.journal) a.floor lt) refl
-does_again held logs a b (found.First s) was lt is capacity number core pair zero one two = rw (is, was, one, lt-ltb (prefix logs.one.journal) a.floor lt) refl
-does_again held logs a b (found.Second s t) was lt is capacity number core pair zero one two = rw (is, was, two, lt-ltb (prefix logs.two.journal) a.floor lt) refl
-does_again held logs a b (found.Agreed g) was lt is capacity number core pair zero one two = rw (is, was, zero, lt-ltb (prefix logs.zero.journal) a.floor lt) refl
+does_again held logs a b found.Unfixed was lt is capacity number core pair z0 z1 z2 = rw (is, was, z0, lt-ltb (prefix logs.zero.journal) a.floor lt) refl
+does_again held logs a b (found.First s) was lt is capacity number core pair z0 z1 z2 = rw (is, was, z1, lt-ltb (prefix logs.one.journal) a.floor lt) refl
+does_again held logs a b (found.Second s t) was lt is capacity number core pair z0 z1 z2 = rw (is, was, z2, lt-ltb (prefix logs.two.journal) a.floor lt) refl
+does_again held logs a b (found.Agreed g) was lt is capacity number core pair z0 z1 z2 = rw (is, was, z0, lt-ltb (prefix logs.zero.journal) a.floor lt) refl
 
 pub again : (held : Snapshot → Held) (logs : Logs) (a b : ActorState) → found_by logs a.snapshots < a.floor → b ≡ record a { snapshots = found.Unfixed }
     → Fixed held logs a b (replies.Again (next_server_of a.snapshots) (found_by logs a.snapshots) a.floor)
@@ -51,14 +53,14 @@ does_keep : (held : Snapshot → Held) (logs : Logs) (a b : ActorState) (u : Sna
     → Keeps held u s a b reply
     → (capacity number : ℕ) (core : Core) (pair : OpenedPair) → core.zero ≡ logs.zero.journal → core.one ≡ logs.one.journal → core.two ≡ logs.two.journal
     → acts capacity core (events.Fix number) pair (Some (seen_actor held a)) ≡ Some (with_actor core number (seen_actor held b), reply)
-does_keep held logs a b u found.Unfixed reply was fix le keeps capacity number core pair zero one two =
-    rw (keeps.0, keeps.1, was, zero, fix.rows, le-ltb (prefix logs.zero.journal) a.floor le) refl
-does_keep held logs a b u (found.First s) reply was fix le keeps capacity number core pair zero one two =
-    rw (keeps.0, keeps.1, was, one, fix.rows, le-ltb (prefix logs.one.journal) a.floor le) refl
-does_keep held logs a b u (found.Second s t) reply was fix le keeps capacity number core pair zero one two =
-    rw (keeps.actor, keeps.says, keeps.cuts.zero.rows, was, two, fix.rows, le-ltb (prefix logs.two.journal) a.floor le) refl
-does_keep held logs a b u (found.Agreed g) reply was fix le keeps capacity number core pair zero one two =
-    rw (keeps.0, keeps.1, was, zero, fix.rows, le-ltb (prefix logs.zero.journal) a.floor le) refl
+does_keep held logs a b u found.Unfixed reply was fix le keeps capacity number core pair z0 z1 z2 =
+    rw (keeps.0, keeps.1, was, z0, fix.rows, le-ltb (prefix logs.zero.journal) a.floor le) refl
+does_keep held logs a b u (found.First s) reply was fix le keeps capacity number core pair z0 z1 z2 =
+    rw (keeps.0, keeps.1, was, z1, fix.rows, le-ltb (prefix logs.one.journal) a.floor le) refl
+does_keep held logs a b u (found.Second s t) reply was fix le keeps capacity number core pair z0 z1 z2 =
+    rw (keeps.actor, keeps.says, keeps.cuts.zero.rows, was, z2, fix.rows, le-ltb (prefix logs.two.journal) a.floor le) refl
+does_keep held logs a b u (found.Agreed g) reply was fix le keeps capacity number core pair z0 z1 z2 =
+    rw (keeps.0, keeps.1, was, z0, fix.rows, le-ltb (prefix logs.zero.journal) a.floor le) refl
 
 kept_draw : (held : Snapshot → Held) (a b : ActorState) (u : Snapshot) (s : Snapshots) (reply : Reply) → Keeps held u s a b reply → b.draw ≡ a.draw
 kept_draw held a b u found.Unfixed reply keeps = ap (λ (x : ActorState). x.draw) keeps.0
@@ -78,13 +80,27 @@ kept_found held logs a b u (found.Second s t) reply legal fix keeps =
 kept_found held logs a b u (found.Agreed g) reply legal fix keeps =
     subst (λ (x : ActorState). Kept held logs (found.Agreed g) x.snapshots) (sym keeps.0) (legal, fix)
 
-pub fixed : (held : Snapshot → Held) (logs : Logs) (a b : ActorState) (u : Snapshot) (reply : Reply) → IsLog (log_of logs (next_server_of a.snapshots)) → IsFixOf (held u) (log_of logs (next_server_of a.snapshots))
-    → a.floor ≤ found_by logs a.snapshots → Keeps held u a.snapshots a b reply → Fixed held logs a b reply
-fixed held logs a b u reply legal fix le keeps = record {
-  draw = kept_draw held a b u a.snapshots reply keeps;
-  kept = kept_found held logs a b u a.snapshots reply legal fix keeps;
-  does = does_keep held logs a b u a.snapshots reply refl fix le keeps;
-}
+pub fixed : (held : Snapshot → Held) (logs : Logs) (a b : ActorState) (u : Snapshot) (reply : Reply) (k : ℕ) → k ≡ next_server_of a.snapshots → IsLog (log_of logs k) → IsFixOf (held u) (log_of logs k)
+    → a.floor ≤ prefix (log_of logs k).journal → Keeps held u a.snapshots a b reply → Fixed held logs a b reply
+fixed held logs a b u reply k next legal fix le keeps =
+    let fix' = subst (λ (n : ℕ). IsFixOf (held u) (log_of logs n)) next fix in
+    record {
+      draw = kept_draw held a b u a.snapshots reply keeps;
+      kept = kept_found held logs a b u a.snapshots reply (subst (λ (n : ℕ). IsLog (log_of logs n)) next legal) fix' keeps;
+      does = does_keep held logs a b u a.snapshots reply refl fix' (subst (λ (n : ℕ). a.floor ≤ prefix (log_of logs n).journal) next le) keeps;
+    }
+
+-- the third snapshot is kept
+pub keeps_third : (held : Snapshot → Held) (u : Snapshot) (old : Snapshots) (a b : ActorState) (reply : Reply) (s t : Snapshot) (g : Agreement) (n : ℕ) → old ≡ found.Second s t
+    → AreCuts (held s) (held t) (held u) (held g.zero) (held g.one) (held g.two) → n ≡ (held g.zero).rows → b ≡ record { floor = n; draw = a.draw; snapshots = found.Agreed g } → reply ≡ replies.Agreed n
+    → Keeps held u old a b reply
+keeps_third held u old a b reply s t g n was cuts rows actor says =
+    subst (λ (x : Snapshots). Keeps held u x a b reply) (sym was) (record {
+      agreement = g;
+      cuts = cuts;
+      actor = actor ∙ ap (λ (m : ℕ). record { floor = m; draw = a.draw; snapshots = found.Agreed g }) rows;
+      says = says ∙ ap (λ (m : ℕ). replies.Agreed m) rows;
+    })
 
 -- ---- the machine
 
@@ -111,16 +127,17 @@ first_next held w most order logs old (found.Agreed a) servers first kept =
     let third = fix_keeps 2 w most order logs.two (held kept.two) (servers 2 (omega arith)) kept.legal kept.third in
     agree held w order (held kept.zero) (held kept.one) (held kept.two) (held a.zero) (held a.one) (held a.two) before.0 before.1 third kept.cuts
 
-module _ (held : Snapshot → Held) (space : ℕ) (t : Table) (i : ℕ) (a b : ActorState) (ok : IsMachine held space t) (here : slice_get t.actors i ≡ Some a)
-    (reply : Reply) (p : Fixed held t.logs a b reply) where
-  next : Table
-  next = record t { actors = set t.actors i b }
+module _ (held : Snapshot → Held) (space : ℕ) (t : Table) (i : ℕ) (a b : ActorState) (after : Logs) (ok : IsMachine held space t) (here : slice_get t.actors i ≡ Some a)
+    (logs : after ≡ t.logs) (reply : Reply) (p : Fixed held t.logs a b reply) where
+  abbrev pub next : Table
+  next = record t { logs = after; actors = set t.actors i b }
 
   steps : (pair : OpenedPair) → step t.capacity (core_of held t) (events.Fix i) pair ≡ Some (core_of held next, reply)
   steps pair =
       ap (acts t.capacity (core_of held t) (events.Fix i) pair) (seen_there held t i a here)
       ∙ p.does t.capacity i (core_of held t) pair refl refl refl
       ∙ ap (λ (actors : List Actor). Some (record (core_of held t) { actors = actors }, reply)) (sym (seen_set held t i b))
+      ∙ ap (λ (l : Logs). Some (core_of held (record t { logs = l; actors = set t.actors i b }), reply)) (sym logs)
 
   actor_next : IsActorOf held t.widths t.order b
   actor_next = record {
@@ -129,11 +146,9 @@ module _ (held : Snapshot → Held) (space : ℕ) (t : Table) (i : ℕ) (a b : A
   }
 
   pub fixed_kept : IsMachine held space next
-  fixed_kept = stays held space t i t.logs b (events.Fix i) (record { total = 0; weighted = 0 }) reply ok ok.servers actor_next (steps (record { total = 0; weighted = 0 }))
+  fixed_kept =
+      stays held space t i after b (events.Fix i) (record { total = 0; weighted = 0 }) reply ok
+      (subst (λ (l : Logs). (k : ℕ) → k < 3 → IsServer k t.widths t.capacity t.order (log_of l k)) (sym logs) ok.servers) actor_next (steps (record { total = 0; weighted = 0 }))
 
-  pub fixed_done : Quietly (seen_machine held t) (events.Fix i) (seen_machine held next) (Ok (Some reply))
-  fixed_done pair = (tt, refl, steps pair, refl)
-
--- no such actor
-pub fixed_past : (held : Snapshot → Held) (t : Table) (i : ℕ) → length t.actors ≤ i → Quietly (seen_machine held t) (events.Fix i) (seen_machine held t) (Ok None)
-fixed_past held t i past pair = (refl, refl, past_case held t (events.Fix i) (λ capacity core q. refl) past, refl)
+  pub fixed_done : (old : Seen) → seen_machine held t ≡ old → Quietly old (events.Fix i) (seen_machine held next) (Ok (Some reply))
+  fixed_done old view = subst (λ (v : Seen). Quietly v (events.Fix i) (seen_machine held next) (Ok (Some reply))) view (λ pair. (tt, refl, steps pair, refl))

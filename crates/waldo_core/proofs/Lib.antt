@@ -1,8 +1,11 @@
+pub mod Accepted
 pub mod Acts
 pub mod Answering
+pub mod Begun
 pub mod Drawn
 pub mod Elements
 pub mod Fixing
+pub mod Journals
 pub mod Looked
 pub mod OverRows
 pub mod Placed

@@ -1,5 +1,5 @@
 -- A look.
-use Rattle.std.proofs.Common.{◌≡◌, ◌∙◌, refl, sym, ap, subst, ℕ, zero, suc, ◌<◌, ◌≤◌, Bool, true, false, Option, Some, None, slice_get, List, length, max, set, tt, arith}
+use Rattle.std.proofs.Common.{◌≡◌, ◌∙◌, refl, sym, ap, subst, ℕ, zero, suc, ◌<◌, ◌≤◌, Bool, true, false, Option, Some, None, slice_get, List, length, max, set, arith}
 use Rattle.std.specs.Prelude.{Result, Ok, Err, nat_lt, if◌then◌else◌}
 use Rattle.std.proofs.lemmas.Bool.{lt-ltb, le-ltb}
 use Rattle.prefix_log.specs.declared.snapshot.Snapshot.{Snapshot}
@@ -7,6 +7,7 @@ use Rattle.scan_chunks.specs.Shelf.{Held}
 use Rattle.server_rounds.specs.declared.opened.OpenedPair.{OpenedPair}
 use Rattle.waldo_core.specs.Core.{Actor, Core, is_pending, journal_of, prefix, with_actor}
 use Rattle.waldo_core.specs.Held.{AreFirst, HasNone, IsActorOf, IsMachine, Looks, LooksAt, Table, core_of, log_of, seen_actor, seen_fixes, seen_machine}
+use Rattle.waldo_core.specs.Machines.{Seen}
 use Rattle.waldo_core.specs.Outcomes.{Quietly, named}
 use Rattle.waldo_core.specs.Step.{acts, looked, step}
 use Rattle.waldo_core.specs.declared.actor.ActorState.{ActorState}
@@ -17,7 +18,7 @@ use Rattle.waldo_core.specs.declared.events.Reply.TheVariants as replies
 use Rattle.waldo_core.specs.declared.logs.Logs.{Logs}
 use Rattle.waldo_core.specs.declared.snapshots.Snapshots.{Snapshots}
 use Rattle.waldo_core.specs.declared.snapshots.Snapshots.TheVariants as found
-use Rattle.waldo_core.proofs.Acts.{no_case, past_case, same_table, seen_set, seen_there, stays}
+use Rattle.waldo_core.proofs.Acts.{no_case, same_table, seen_set, seen_there, stays}
 
 pub no_server : (a : Actor) (k : ℕ) → 3 ≤ k → (number : ℕ) → HasNone a (events.Look number k)
 no_server a k past number capacity core pair = rw (le-ltb k 3 past) refl
@@ -42,7 +43,7 @@ same_journal held t (suc zero) = refl
 same_journal held t (suc (suc k)) = refl
 
 module _ (held : Snapshot → Held) (space : ℕ) (t : Table) (i k : ℕ) (a b : ActorState) (ok : IsMachine held space t) (here : slice_get t.actors i ≡ Some a) where
-  next : Table
+  abbrev pub next : Table
   next = record t { actors = set t.actors i b }
 
   module _ (reply : Reply) (p : LooksAt held k t.logs a b reply) where
@@ -65,10 +66,9 @@ module _ (held : Snapshot → Held) (space : ℕ) (t : Table) (i k : ℕ) (a b :
   looked_kept None p = subst (λ (x : Table). IsMachine held space x) (sym (same_table t i t.logs a b here refl p.1)) ok
   looked_kept (Some reply) p = kept reply p
 
-  pub looked_done : (reply : Option Reply) → Looks held k t.logs a b reply → Quietly (seen_machine held t) (events.Look i k) (seen_machine held next) (Ok reply)
-  looked_done None p pair = (refl, refl, no_case held t (events.Look i k) a (p.0 i) here, ap (seen_machine held) (same_table t i t.logs a b here refl p.1))
-  looked_done (Some reply) p pair = (tt, refl, steps reply p pair, refl)
-
--- no such actor
-pub looked_past : (held : Snapshot → Held) (t : Table) (i k : ℕ) → length t.actors ≤ i → Quietly (seen_machine held t) (events.Look i k) (seen_machine held t) (Ok None)
-looked_past held t i k past pair = (refl, refl, past_case held t (events.Look i k) (λ capacity core q. refl) past, refl)
+  pub looked_done : (old : Seen) (reply : Option Reply) → seen_machine held t ≡ old → Looks held k t.logs a b reply → Quietly old (events.Look i k) (seen_machine held next) (Ok reply)
+  looked_done old reply view p = subst (λ (v : Seen). Quietly v (events.Look i k) (seen_machine held next) (Ok reply)) view (by reply p)
+    where
+      by : (r : Option Reply) → Looks held k t.logs a b r → Quietly (seen_machine held t) (events.Look i k) (seen_machine held next) (Ok r)
+      by None q pair = (refl, refl, no_case held t (events.Look i k) a (q.0 i) here, ap (seen_machine held) (same_table t i t.logs a b here refl q.1))
+      by (Some r) q pair = (tt, refl, steps r q pair, refl)

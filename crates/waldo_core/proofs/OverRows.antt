@@ -1,14 +1,12 @@
 -- The messages over the shelves of an agreement are those over the rows of the order.
 use Rattle.std.proofs.Common.{◌≡◌, ◌∙◌, refl, sym, ap, subst, ℕ, zero, suc, ◌+◌, ◌*◌, ◌%◌, ◌<◌, ◌≤◌, List, [], ◌∷◌, All, length, map, get_or, take, arith}
-use Rattle.std.proofs.lemmas.Bool.{lt-ltb}
-use Rattle.std.proofs.lemmas.List.{get_or-map, length-take-le}
+use Rattle.std.proofs.lemmas.List.{length-take-le}
 use Rattle.std.proofs.lemmas.List.Elements.{All-weaker}
 use Rattle.list_facts.specs.Count.{total}
 use Rattle.onehot_column.specs.Code.{width_of}
 use Rattle.prefix_log.specs.Snapshots.{KeepsRows}
 use Rattle.prg_chacha.specs.declared.seed.Seed.{Seed}
-use Rattle.query_plan.specs.KeyMessages.{Asked}
-use Rattle.query_plan.specs.Query.{IsNext, IsPlaced, Suits, no_predicate, part_of, predicate_at, shaped}
+use Rattle.query_plan.specs.Query.{shaped}
 use Rattle.query_plan.specs.declared.query.Query.{Query}
 use Rattle.scan_chunks.specs.Laws.{AreParts, GoOn}
 use Rattle.scan_chunks.specs.Pieces.{Pieces}
@@ -16,7 +14,6 @@ use Rattle.scan_chunks.specs.Shelf.{Held}
 use Rattle.server_rounds.specs.Groups.{by_server}
 use Rattle.server_rounds.specs.Shelves.{AreShelves, pieces_of, rows_of}
 use Rattle.table_schema.specs.declared.rows.Row.{Row}
-use Rattle.table_schema.specs.declared.shapes.Part.{Part}
 use Rattle.table_schema.specs.declared.widths.Widths.{Widths}
 use Rattle.transcript.specs.Laws.{HasColumns, SamePieces}
 use Rattle.transcript.specs.Rows.{cells_over, pieces_over}
@@ -39,6 +36,10 @@ are_shelves w n whole parts rows of = record {
   order = subst (λ (s : ℕ). GoOn s parts) rows.start of.order;
 }
 
+-- the same for so many rows as the first server's shelves have
+pub are_shelves_of : (w : Widths) (n m : ℕ) (whole : Held) (parts : List Held) → AreRowsOf w n whole → ArePartsOf whole parts → m ≡ n → AreShelves w m parts
+are_shelves_of w n m whole parts rows of same = subst (λ (k : ℕ). AreShelves w k parts) (sym same) (are_shelves w n whole parts rows of)
+
 pub rows_are : (w : Widths) (n : ℕ) (whole : Held) (parts : List Held) → AreRowsOf w n whole → ArePartsOf whole parts → rows_of parts ≡ n
 rows_are w n whole parts rows of = (are_shelves w n whole parts rows of).count
 
@@ -58,24 +59,19 @@ same_parts w n h0 h1 h2 s0 s1 s2 r0 r1 r2 p0 p1 p2 = record { first = first; sec
     second (suc zero) column lt le = sym (p1.rows column (omega (arith, r1.columns))).seconds
     second (suc (suc k)) column lt le = sym (p2.rows column (omega (arith, r2.columns))).seconds
 
--- the columns of a legal query are there
-pub has_columns : (query : Query) (w : Widths) (rows : ℕ) → length query.predicates ≡ 4 → Suits w.columns w.bits query → HasColumns (record { rows = rows; widths = w; shape = shaped query })
-has_columns query w rows places suits j lt =
-    let placed : IsPlaced w.columns w.bits query j = suits.placed j (omega (arith, suits.few)) in
-    let next : IsNext w.columns w.bits (take j query.predicates) (predicate_at query j) = rw (lt-ltb j query.count lt) at placed in
-    let there : j < length query.predicates = omega (arith, suits.few) in
-    let column : (get_or (map part_of query.predicates) j (part_of no_predicate)).column ≡ (predicate_at query j).column = ap (λ (p : Part). p.column) (get_or-map part_of query.predicates j no_predicate _ there) in
-    subst (λ (c : ℕ). c < w.columns) (sym column) next.legal.column
-
 -- messages over other pieces that are the same at the columns
-pub over_same : (query : Query) (w : Widths) (seed : Seed) (n : ℕ) (pieces other : ℕ → Pieces) (ms : List Message) → length query.predicates ≡ 4 → Suits w.columns w.bits query
-    → SamePieces w.columns pieces other → IsPart (setup_for query w seed n pieces) ms → IsPart (setup_for query w seed n other) ms
-over_same query w seed n pieces other ms places suits same part = columns_suffice (setup_for query w seed n pieces) other ms (has_columns query w n places suits) same part
+pub over_same : (query : Query) (w : Widths) (seed : Seed) (m n : ℕ) (pieces other : ℕ → Pieces) (ms : List Message) → m ≡ n
+    → HasColumns (record { rows = n; widths = w; shape = shaped query }) → SamePieces w.columns pieces other
+    → IsPart (setup_for query w seed m pieces) ms → IsPart (setup_for query w seed n other) ms
+over_same query w seed m n pieces other ms many columns same part =
+    let here : IsPart (setup_for query w seed n pieces) ms = subst (λ (k : ℕ). IsPart (setup_for query w seed k pieces) ms) many part in
+    columns_suffice (setup_for query w seed n pieces) other ms columns same here
 
-pub all_over_same : (query : Query) (w : Widths) (seed : Seed) (n : ℕ) (pieces other : ℕ → Pieces) (ms : List Message) → length query.predicates ≡ 4 → Suits w.columns w.bits query
-    → SamePieces w.columns pieces other → IsTranscript (setup_for query w seed n pieces) ms → IsTranscript (setup_for query w seed n other) ms
-all_over_same query w seed n pieces other ms places suits same all = record {
-  part = over_same query w seed n pieces other ms places suits same all.part;
+pub all_over_same : (query : Query) (w : Widths) (seed : Seed) (m n : ℕ) (pieces other : ℕ → Pieces) (ms : List Message) → m ≡ n
+    → HasColumns (record { rows = n; widths = w; shape = shaped query }) → SamePieces w.columns pieces other
+    → IsTranscript (setup_for query w seed m pieces) ms → IsTranscript (setup_for query w seed n other) ms
+all_over_same query w seed m n pieces other ms many columns same all = record {
+  part = over_same query w seed m n pieces other ms many columns same all.part;
   full = all.full;
 }
 

@@ -1,5 +1,5 @@
 -- A placing.
-use Rattle.std.proofs.Common.{◌≡◌, ◌∙◌, refl, sym, ap, subst, ℕ, zero, suc, ◌+◌, ◌<◌, ◌≤◌, ◌⊎◌, inl, inr, Bool, true, false, Option, Some, None, slice_get, List, [], length, set, map, tt, arith}
+use Rattle.std.proofs.Common.{◌≡◌, ◌∙◌, refl, sym, ap, subst, ℕ, zero, suc, ◌+◌, ◌<◌, ◌≤◌, ◌⊎◌, inl, inr, Bool, true, false, Option, Some, None, slice_get, List, [], length, set, map, arith}
 use Rattle.std.specs.Prelude.{Result, Ok, Err, is_none, is_some, nat_lt, ◌&&◌, if◌then◌else◌}
 use Rattle.std.proofs.lemmas.Bool.{lt-ltb, le-ltb}
 use Rattle.std.proofs.lemmas.Option.{slice_get_within}
@@ -16,6 +16,7 @@ use Rattle.table_schema.specs.declared.widths.Widths.{Widths}
 use Rattle.waldo_core.specs.Core.{Actor, Core, Open, is_pending, journal_of, with_actor, with_journal}
 use Rattle.waldo_core.specs.Held.{AreFirst, CanPlace, HasNone, HoldsShares, IsActorOf, IsMachine, IsServer, IsShareAt, Places, PlacesPiece, Table, core_of, log_of, piece_for, seen_actor, seen_draw, seen_fixes, seen_machine, seen_open, with_log, with_piece, without}
 use Rattle.waldo_core.specs.Legal.{IsActor, IsOpen}
+use Rattle.waldo_core.specs.Machines.{Seen}
 use Rattle.waldo_core.specs.Outcomes.{Quietly, named}
 use Rattle.waldo_core.specs.Step.{acts, place_step, placed_at, step, with_draw, with_place}
 use Rattle.waldo_core.specs.declared.actor.ActorState.{ActorState}
@@ -26,7 +27,7 @@ use Rattle.waldo_core.specs.declared.events.Reply.TheVariants as replies
 use Rattle.waldo_core.specs.declared.logs.Logs.{Logs}
 use Rattle.waldo_core.specs.declared.snapshots.Snapshots.{Snapshots}
 use Rattle.waldo_core.specs.declared.snapshots.Snapshots.TheVariants as found
-use Rattle.waldo_core.proofs.Acts.{legal_there, no_case, past_case, same_table, seen_set, seen_there, stays}
+use Rattle.waldo_core.proofs.Acts.{legal_there, no_case, same_table, seen_set, seen_there, stays}
 use Rattle.waldo_core.proofs.Shares.{journal_placed, server_placed}
 
 -- ---- the actor's part
@@ -54,7 +55,7 @@ piece_without (suc (suc j)) zero draw piece e = e
 piece_without (suc (suc j)) (suc zero) draw piece e = e
 piece_without (suc (suc j)) (suc (suc k)) draw piece e = absurd cc
 
--- where it is no server, fixes are under way or no draw is open, a placing has no case
+-- where it is no server, fixes are under way or no draw is opened, a placing has no case
 pub no_server : (a : Actor) (k : ℕ) → 3 ≤ k → (number : ℕ) → HasNone a (events.Place number k)
 no_server a k past number capacity core pair = rw (le-ltb k 3 past) refl
 
@@ -80,6 +81,22 @@ pub does_place : (held : Snapshot → Held) (k : ℕ) (a b : ActorState) (draw :
       ≡ Some (with_actor (with_journal core k (with_place draw.place (journal_of core k))) number (seen_actor held b), replies.Placed)
 does_place held k a b draw lt idle was seen capacity core number pair = rw (lt-ltb k 3 lt, was, idle, seen) refl
 
+-- a placing, step by step
+pub placing : (held : Snapshot → Held) (k : ℕ) (before : Logs) (a : ActorState) (after : Logs) (b : ActorState) (draw rest : OpenDraw) (piece : Option Piece) → k < 3
+    → is_pending (seen_fixes held a.snapshots) ≡ false → a.draw ≡ Some draw → rest ≡ without k draw → piece ≡ piece_for k draw → after ≡ with_piece before k rest.place piece
+    → seen_actor held b ≡ with_draw (seen_actor held a) (seen_draw rest) → ((d : OpenDraw) → b.draw ≡ Some d → d ≡ rest) → b.snapshots ≡ found.Unfixed
+    → PlacesPiece held k before a after b
+placing held k before a after b draw rest piece lt idle was left handed logs seen stay unfixed = record {
+  server = lt;
+  draw = draw;
+  was = was;
+  logs = logs ∙ ap (λ (d : OpenDraw). with_piece before k d.place piece) left ∙ ap (λ (n : ℕ). with_piece before k n piece) (place_without k draw)
+      ∙ ap (with_piece before k draw.place) handed;
+  rest = λ d is. stay d is ∙ left;
+  unfixed = unfixed;
+  does = does_place held k a b draw lt idle was (seen ∙ ap (λ (d : OpenDraw). with_draw (seen_actor held a) (seen_draw d)) left ∙ ap (with_draw (seen_actor held a)) (seen_without k draw));
+}
+
 -- ---- the logs' part
 
 -- a core with the journals of these logs
@@ -102,9 +119,9 @@ core_placed c logs (suc (suc k)) place (Some piece) legal there = ap (λ (j : Li
 
 -- a piece that is gone was placed
 was_placed : (core : Core) (k : ℕ) (draw : OpenDraw) → IsOpen core (seen_draw draw) → piece_for k draw ≡ None → has draw.place (journal_of core k) ≡ true
-was_placed core zero draw open none = open.zero ∙ ap is_none none
-was_placed core (suc zero) draw open none = open.one ∙ ap is_none none
-was_placed core (suc (suc k)) draw open none = open.two ∙ ap is_none none
+was_placed core zero draw opened none = opened.zero ∙ ap is_none none
+was_placed core (suc zero) draw opened none = opened.one ∙ ap is_none none
+was_placed core (suc (suc k)) draw opened none = opened.two ∙ ap is_none none
 
 -- the logs have pieces of the order alone
 servers_after : (w : Widths) (most : ℕ) (order : List (Row × Seed)) (logs : Logs) (k place : ℕ) (piece : Option Piece)
@@ -134,16 +151,16 @@ own_of k w most order log place piece s share = record {
   widths = subst (λ (v : Widths). HasWidths v piece) (sym s.widths) share.wide;
 }
 
--- the pieces of an actor's open draw can be put at a server
+-- the pieces of an actor's opened draw can be put at a server
 pub can_place : (held : Snapshot → Held) (space : ℕ) (t : Table) (i k : ℕ) (a : ActorState) → IsMachine held space t → slice_get t.actors i ≡ Some a → CanPlace k t.logs a
 can_place held space t i k a ok here = record {
-  room = λ draw is. omega (arith, (open draw is).place, ok.few, most k);
-  small = λ draw is. omega (arith, (open draw is).place, ok.few, ok.fits.1);
+  room = λ draw is. omega (arith, (opened draw is).place, ok.few, most k);
+  small = λ draw is. omega (arith, (opened draw is).place, ok.few, ok.fits.1);
   own = own k;
 }
   where
-    open : (draw : OpenDraw) → a.draw ≡ Some draw → IsOpen (core_of held t) (seen_draw draw)
-    open draw is = (legal_there held space t i a ok here).draw (seen_draw draw) (ap seen_open is)
+    opened : (draw : OpenDraw) → a.draw ≡ Some draw → IsOpen (core_of held t) (seen_draw draw)
+    opened draw is = (legal_there held space t i a ok here).draw (seen_draw draw) (ap seen_open is)
 
     shares : (draw : OpenDraw) → a.draw ≡ Some draw → HoldsShares t.widths t.order draw
     shares = (ok.actors i a here).draw
@@ -161,7 +178,7 @@ can_place held space t i k a ok here = record {
 module _ (held : Snapshot → Held) (space : ℕ) (t : Table) (i k : ℕ) (a b : ActorState) (after : Logs) (ok : IsMachine held space t) (here : slice_get t.actors i ≡ Some a)
     (legal : IsLog (log_of t.logs k)) where
   -- the machine afterwards
-  next : Table
+  abbrev pub next : Table
   next = record t { logs = after; actors = set t.actors i b }
 
   module _ (p : PlacesPiece held k t.logs a after b) where
@@ -203,10 +220,9 @@ module _ (held : Snapshot → Held) (space : ℕ) (t : Table) (i k : ℕ) (a b :
   placed_kept None p = subst (λ (x : Table). IsMachine held space x) (sym (same_table t i after a b here p.1 p.2)) ok
   placed_kept (Some reply) p = kept p.0
 
-  pub placed_done : (reply : Option Reply) → Places held k t.logs a after b reply → Quietly (seen_machine held t) (events.Place i k) (seen_machine held next) (Ok reply)
-  placed_done None p pair = (refl, refl, no_case held t (events.Place i k) a (p.0 i) here, ap (seen_machine held) (same_table t i after a b here p.1 p.2))
-  placed_done (Some reply) p pair = (tt, refl, rw p.1 (steps p.0 pair), refl)
-
--- no such actor
-pub placed_past : (held : Snapshot → Held) (t : Table) (i k : ℕ) → length t.actors ≤ i → Quietly (seen_machine held t) (events.Place i k) (seen_machine held t) (Ok None)
-placed_past held t i k past pair = (refl, refl, past_case held t (events.Place i k) (λ capacity core q. refl) past, refl)
+  pub placed_done : (old : Seen) (reply : Option Reply) → seen_machine held t ≡ old → Places held k t.logs a after b reply → Quietly old (events.Place i k) (seen_machine held next) (Ok reply)
+  placed_done old reply view p = subst (λ (v : Seen). Quietly v (events.Place i k) (seen_machine held next) (Ok reply)) view (by reply p)
+    where
+      by : (r : Option Reply) → Places held k t.logs a after b r → Quietly (seen_machine held t) (events.Place i k) (seen_machine held next) (Ok r)
+      by None q pair = (refl, refl, no_case held t (events.Place i k) a (q.0 i) here, ap (seen_machine held) (same_table t i after a b here q.1 q.2))
+      by (Some r) q pair = (tt, refl, steps q.0 pair ∙ ap (λ (x : Reply). Some (core_of held next, x)) (sym q.1), refl)

@@ -1,5 +1,5 @@
 -- Pieces and rows of the order: they stay as the order grows, as a log takes a piece, and in a snapshot.
-use Rattle.std.proofs.Common.{◌≡◌, ◌∙◌, refl, sym, ap, subst, ℕ, zero, suc, ◌+◌, ◌<◌, ◌≤◌, ◌⊎◌, inl, inr, ⊎_elim, Bool, true, false, cond, Option, Some, None, slice_get, List, [], ◌∷◌, ◌++◌, length, get_or, set, take, tt, arith}
+use Rattle.std.proofs.Common.{◌≡◌, ◌∙◌, refl, sym, ap, subst, ℕ, zero, suc, ◌+◌, ◌<◌, ◌≤◌, ◌⊎◌, inl, inr, ⊎_elim, Bool, true, false, cond, Option, Some, None, slice_get, List, [], ◌∷◌, ◌++◌, length, get_or, set, take, arith}
 use Rattle.std.specs.Prelude.{is_some}
 use Rattle.std.proofs.lemmas.List.{length-append, length-take, take-append-le, take-take}
 use Rattle.std.proofs.lemmas.Option.{same_Some, slice_get_within}
@@ -53,8 +53,8 @@ keeps_grows w k order e n h keeps = record {
   keeps = subst (λ (rows : List (Row × Seed)). KeepsRows w k rows h) (sym (take-append-le n order (e ∷ []) keeps.few)) keeps.keeps;
 }
 
-first_grows : (held : Snapshot → Held) (w : Widths) (order : List (Row × Seed)) (e : Row × Seed) (found : Snapshots)
-    → AreFirst held w order found → AreFirst held w (order ++ e ∷ []) found
+first_grows : (held : Snapshot → Held) (w : Widths) (order : List (Row × Seed)) (e : Row × Seed) (s : Snapshots)
+    → AreFirst held w order s → AreFirst held w (order ++ e ∷ []) s
 first_grows held w order e found.Unfixed first = tt
 first_grows held w order e (found.First s) first = keeps_grows w 0 order e (held s).rows (held s) first
 first_grows held w order e (found.Second s t) first = (keeps_grows w 0 order e (held s).rows (held s) first.0, keeps_grows w 1 order e (held t).rows (held t) first.1)

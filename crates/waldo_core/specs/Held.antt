@@ -16,7 +16,7 @@ use Rattle.table_schema.specs.declared.rows.Row.{Row}
 use Rattle.table_schema.specs.declared.widths.Widths.{Widths}
 use Rattle.waldo_core.specs.Answers.{rows_agreed}
 use Rattle.waldo_core.specs.Core.{Actor, Core, Fixes, Open, is_pending, journal_of, prefix, with_actor, with_journal}
-use Rattle.waldo_core.specs.Core.Fixes as fixes
+use Rattle.waldo_core.specs.Core.Fixes.{Unfixed, First, Second, Agreed}
 use Rattle.waldo_core.specs.Legal.{IsLegal}
 use Rattle.waldo_core.specs.Machines.{Seen}
 use Rattle.waldo_core.specs.Step.{acts, is_server, with_place}
@@ -81,10 +81,10 @@ seen_open (Some draw) = Some (seen_draw draw)
 
 -- snapshots are seen by their numbers of rows
 abbrev pub seen_fixes : (Snapshot → Held) → Snapshots → Fixes
-seen_fixes held found.Unfixed = fixes.Unfixed
-seen_fixes held (found.First s) = fixes.First (held s).rows
-seen_fixes held (found.Second s t) = fixes.Second (held s).rows (held t).rows
-seen_fixes held (found.Agreed a) = fixes.Agreed (held a.zero).rows
+seen_fixes held found.Unfixed = Unfixed
+seen_fixes held (found.First s) = First (held s).rows
+seen_fixes held (found.Second s t) = Second (held s).rows (held t).rows
+seen_fixes held (found.Agreed a) = Agreed (held a.zero).rows
 
 -- the server of the next fix
 abbrev pub next_server_of : Snapshots → ℕ
