@@ -1,5 +1,5 @@
 -- Where nothing was altered no reply says so.
-use Rattle.std.proofs.Common.{◌≡◌, ◌∙◌, refl, sym, ap, ℕ, ◌+◌, ◌<◌, ◌≤◌, ◌^◌, Bool, true, false, eq-eqb, Option, Some, None, slice_get, List, [], All, length, map, take, arith}
+use Rattle.std.proofs.Common.{◌≡◌, ◌∙◌, refl, sym, ap, subst, ℕ, ◌+◌, ◌<◌, ◌≤◌, ◌^◌, Bool, true, false, eq-eqb, Option, Some, None, slice_get, List, [], All, length, map, take, arith}
 use Rattle.std.specs.Prelude.{Result, Ok, Err, IfOk, is_some, nat_lt, ◌||◌, if◌then◌else◌}
 use Rattle.std.proofs.lemmas.Bool.{lt-ltb}
 use Rattle.std.proofs.lemmas.List.{length-map, length-take}
@@ -65,13 +65,17 @@ quiet_acts capacity core (events.Look number k) pair (Some a) q = either (is_ser
 quiet_acts capacity core (events.Fix number) pair (Some a) q = quiet_fix core number a a.fixes
 quiet_acts capacity core (events.Answer number query seed) pair (Some a) q = absurd q
 
-pub quiet_accepted : (old : Seen) (event : Event) (new : Seen) (result : Result (Option Reply) Memory) → IsQuiet event → Quietly old event new result
-    → IfOk (named event result) (λ (reply : Reply). is_altered reply ≡ false)
-quiet_accepted old event new (Ok (Some reply)) quiet done =
+by_result : (old : Seen) (event : Event) (new : Seen) (result : Result (Option Reply) Memory) → IsQuiet event → Quietly old event new result → IfOk (named event result) (λ (reply : Reply). is_altered reply ≡ false)
+by_result old event new (Ok (Some reply)) quiet done =
     let pair : OpenedPair = record { total = 0; weighted = 0 } in
     sym (ap altered_in (done pair).2) ∙ quiet_acts old.capacity old.core event pair (slice_get old.core.actors (actor_of event)) quiet
-quiet_accepted old event new (Ok None) quiet done = tt
-quiet_accepted old event new (Err memory) quiet done = tt
+by_result old event new (Ok None) quiet done = tt
+by_result old event new (Err memory) quiet done = tt
+
+pub quiet_accepted : (old : Seen) (given event : Event) (new : Seen) (result : Result (Option Reply) Memory) → given ≡ event → IsQuiet event → Quietly old event new result
+    → IfOk (named given result) (λ (reply : Reply). is_altered reply ≡ false)
+quiet_accepted old given event new result same quiet done =
+    subst (λ (e : Event). IfOk (named e result) (λ (reply : Reply). is_altered reply ≡ false)) (sym same) (by_result old event new result quiet done)
 
 -- ---- an answer
 

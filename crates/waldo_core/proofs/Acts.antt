@@ -6,10 +6,13 @@ use Rattle.std.proofs.lemmas.Option.{slice_get-map, slice_get_past}
 use Rattle.prefix_log.specs.declared.snapshot.Snapshot.{Snapshot}
 use Rattle.scan_chunks.specs.Shelf.{Held}
 use Rattle.server_rounds.specs.declared.opened.OpenedPair.{OpenedPair}
+use Rattle.ring128.specs.declared.memory.Memory.{Memory}
+use Rattle.waldo_core.specs.Answers.{IsPlain}
 use Rattle.waldo_core.specs.Core.{Actor, Core, with_actor}
 use Rattle.waldo_core.specs.Held.{HasNone, IsActorOf, IsMachine, IsServer, Table, core_of, log_of, seen_actor, seen_machine}
 use Rattle.waldo_core.specs.Legal.{IsActor, IsLegal}
-use Rattle.waldo_core.specs.Machines.{HasNoCase, Seen}
+use Rattle.waldo_core.specs.Machines.{HasNoCase, Seen, Stepped}
+use Rattle.waldo_core.specs.Outcomes.{Quietly, named}
 use Rattle.waldo_core.specs.Step.{actor_of, acts, step}
 use Rattle.waldo_core.specs.declared.actor.ActorState.{ActorState}
 use Rattle.waldo_core.specs.declared.events.Event.{Event}
@@ -17,6 +20,17 @@ use Rattle.waldo_core.specs.declared.events.Reply.{Reply}
 use Rattle.waldo_core.specs.declared.logs.Logs.{Logs}
 use Rattle.waldo_core.proofs.Elements.{All-there, set_there, slice_get-set}
 use Rattle.waldo_core.proofs.Stays.{legal_stays}
+
+-- what stands for a pair where nothing was opened
+abbrev pub nothing : OpenedPair
+nothing = record { total = 0; weighted = 0 }
+
+-- an event without messages, by what was given
+pub quiet_stepped : (old : Seen) (given event : Event) (new : Seen) (result : Result (Option Reply) Memory) → given ≡ event → Quietly old event new result → Stepped old given [] nothing new (named given result)
+quiet_stepped old given event new result same done = subst (λ (e : Event). Stepped old e [] nothing new (named e result)) (sym same) (done nothing)
+
+pub quiet_plain : (core : Core) (given event : Event) → given ≡ event → IsPlain core event nothing → IsPlain core given nothing
+quiet_plain core given event same plain = subst (λ (e : Event). IsPlain core e nothing) (sym same) plain
 
 -- an actor as the core has it
 pub seen_there : (held : Snapshot → Held) (t : Table) (i : ℕ) (a : ActorState) → slice_get t.actors i ≡ Some a → slice_get (core_of held t).actors i ≡ Some (seen_actor held a)

@@ -13,4 +13,4 @@ pub returns-in_default : goal.returns-in_default
 returns-in_default c =
     let m = c.self.inside in
     let here = slice_get_read m.actors.items c.len.result c.args.number c.index.result.now (c.len.ensures ∙ m.actors.ok.0) c.if-i-len.false c.index.ensures in
-    record { none = no_agreement _ _ c.args.number c.index.result.now c.args.self.now here c.in_default.not-Agreed c.self.view_is; some = tt }
+    record { none = no_agreement _ _ _ c.args.number c.index.result.now c.args.self.now c.self.invariant here c.in_default.not-Agreed c.self.view_is; some = tt }
