@@ -5,8 +5,11 @@ pub mod Begun
 pub mod Drawn
 pub mod Elements
 pub mod Fixing
+pub mod Grown
 pub mod Journals
+pub mod Legal
 pub mod Looked
+pub mod OpenDraws
 pub mod OverRows
 pub mod Placed
 pub mod Plainly
