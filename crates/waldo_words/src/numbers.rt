@@ -7,6 +7,9 @@ ghost use Rattle.waldo_words.specs.Values.{bits_in, capacity_of, decimal_of, num
 use table_schema::Schema;
 use text_reading::number;
 
+// The most rows of a table.
+const MOST_ROWS: u64 = 65_536;
+
 /// The number of a text, where it is from low to high.
 #[tactic(auto, unfolding(crate::specs::Values::number_within))]
 pub(crate) fn within(low: u64, high: u64, text: &[u8]) -> Option<u64>
@@ -49,7 +52,7 @@ pub(crate) fn capacity(schema: &Schema, text: &[u8]) -> Option<u32>
     ensures fits { IfSome result (Fits (bits_in schema.now)) }
 {
     let rows = number(text)?;
-    if rows > 65_536 {
+    if rows > MOST_ROWS {
         return None;
     }
     let rows = rows as u32;

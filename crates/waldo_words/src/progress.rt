@@ -1,6 +1,7 @@
 //! One word after another.
-ghost use Rattle.std.specs.Prelude.{◌≡◌, ◌<◌, not, IfOk};
-ghost use Rattle.std.specs.Option.{ok_or, option_copied};
+ghost use Rattle.std.specs.Prelude.{◌≡◌, ◌<◌, IfOk, List};
+ghost use Rattle.std.specs.Option.{option_copied};
+ghost use Rattle.table_schema.specs.declared.schema.Column.{Column};
 ghost use Rattle.text_reading.specs.Cut.{cut_at};
 ghost use Rattle.text_reading.specs.Reading.{Gives};
 ghost use Rattle.waldo_words.specs.Legal.{IsFound, IsProgress};
@@ -8,8 +9,6 @@ ghost use Rattle.waldo_words.specs.Options.{most_times, times_found};
 ghost use Rattle.waldo_words.specs.Words.{after_option, after_value, after_word, beginning, is_dashed, with_text};
 ghost use Rattle.waldo_words.specs.declared.faults.ValueFault.TheVariants as fault;
 ghost use Rattle.waldo_words.specs.declared.names.CommandName.{CommandName};
-ghost use Rattle.table_schema.specs.declared.schema.Column.{Column};
-ghost use Rattle.std.specs.Prelude.{List};
 
 use crate::faults::ValueFault;
 use crate::found::Found;

@@ -1,5 +1,5 @@
 //! All words.
-ghost use Rattle.std.specs.Prelude.{◌≡◌, Ok, IfOk, map, string_bytes};
+ghost use Rattle.std.specs.Prelude.{Ok, IfOk, map, string_bytes};
 ghost use Rattle.text_reading.specs.Reading.{Gives};
 ghost use Rattle.waldo_words.specs.Legal.{IsFound, IsLegal};
 ghost use Rattle.waldo_words.specs.Words.{after_command, after_schema, beginning, command_of, options_from};

@@ -1,4 +1,6 @@
-use crate::{Amount, Command, Common, ShiftWord, Step, WordFault, read_words};
+use crate::{
+    Amount, Command, Common, Queries, Schedule, ShiftWord, ShiftWords, Step, WordFault, read_words,
+};
 use query_plan::Query;
 use std::alloc::{AllocError, Global};
 use std::test::Fail;
@@ -180,6 +182,8 @@ fn common_options(rt: HostRuntime) -> Result<(), Fail> {
         (queries[1].aggregate, queries[1].predicates[0].kind),
         (Aggregate::Count, Kind::AtMost)
     );
+    let queries = Queries::from_vec(plain.queries.into_vec());
+    assert!(rt; queries.len() == 2 && !queries.is_empty());
     let full = ask(
         alloc,
         "ask|x:8|--workers=016|--capacity|0002|--seed|000102030405060708090a0b0c0d0e0f101112131415161718191A1B1C1D1EFf|--query=sum x=1",
@@ -218,6 +222,8 @@ fn schedules(rt: HostRuntime) -> Result<(), Fail> {
         },
     ];
     assert!(rt; schedule.as_slice() == steps.as_slice());
+    let schedule = Schedule::from_vec(schedule.into_vec());
+    assert!(rt; schedule.len() == 5 && !schedule.is_empty());
     Ok(())
 }
 
@@ -268,6 +274,8 @@ fn own_options(rt: HostRuntime) -> Result<(), Fail> {
         },
     ];
     assert!(rt; shifts.as_slice() == wanted.as_slice());
+    let shifts = ShiftWords::from_vec(shifts.into_vec());
+    assert!(rt; shifts.len() == 2 && !shifts.is_empty());
     Ok(())
 }
 
