@@ -46,7 +46,7 @@ module _ {W : Type 0} (told : W → Option (List Message)) (alterations : W → 
       (plain_weaker (IsStill alterations us ws) (IsStill alterations vs ws) s style (λ actor still rose. still (rose_last told alterations passes 0 ds es actor vs us ws p q rose)) es mid g)
 
   pub leads_none : NonePasses passes → (stage : Stage) (vs : List W) → Leads told alterations passes w s style stage vs [] stage vs
-  leads_none none stage vs = record { history = []; sent = wires_none told alterations passes none 0 vs; plain = tt; advances = refl }
+  leads_none none stage vs = record { history = []; sent = wires_none told alterations passes none 0 vs; plain = tt; advances = refl; calm = λ still. refl }
 
   pub leads_both : BothPass passes → (stage mid end : Stage) (vs us ws : List W) (xs ys : List Step) → Leads told alterations passes w s style stage vs xs mid us
       → Leads told alterations passes w s style mid us ys end ws → Leads told alterations passes w s style stage vs (xs ++ ys) end ws
@@ -55,6 +55,9 @@ module _ {W : Type 0} (told : W → Option (List Message)) (alterations : W → 
     sent = wires_both told alterations passes both p.history q.history 0 vs us ws p.sent q.sent;
     plain = plain_both stage mid vs us ws xs p.history q.history p.advances p.sent q.sent p.plain q.plain;
     advances = advances_both w s style xs ys p.history q.history stage mid end p.advances q.advances;
+    calm = λ still.
+        q.calm (λ actor rose. still actor (rose_last told alterations passes 0 p.history q.history actor vs us ws p.sent q.sent rose))
+        ∙ p.calm (λ actor rose. still actor (rose_first told alterations passes 0 p.history q.history actor vs us ws p.sent q.sent rose));
   }
 
   pub leads_stops : BothPass passes → (t : ℕ) (stage mid : Stage) (vs us ws : List W) (xs ys : List Step) (fault : PlayFault)
@@ -99,8 +102,8 @@ module _ {W : Type 0} (told : W → Option (List Message)) (alterations : W → 
 
   pub stops_plays : (fault : PlayFault) → Stops told alterations passes w task.setting task.style 0 first_stage vs task.steps ws fault
       → Plays w task (λ history. WiresWent told alterations passes history 0 vs ws) (IsStill alterations vs ws) (Err fault)
-  stops_plays fault stops = record { history = stops.history; sent = stops.sent; plain = stops.plain; ended = ended_at w task stops.history fault stops.ends }
+  stops_plays fault stops = record { history = stops.history; sent = stops.sent; plain = stops.plain; ended = ended_at w task stops.history fault stops.ends; accepted = λ still. tt }
 
   -- there was no memory to begin with
   pub nothing_plays : NonePasses passes → ws ≡ vs → Plays w task (λ history. WiresWent told alterations passes history 0 vs ws) (IsStill alterations vs ws) (Err Memory)
-  nothing_plays none same = record { history = []; sent = subst (λ (us : List W). WiresWent told alterations passes [] 0 vs us) (sym same) (wires_none told alterations passes none 0 vs); plain = tt; ended = tt }
+  nothing_plays none same = record { history = []; sent = subst (λ (us : List W). WiresWent told alterations passes [] 0 vs us) (sym same) (wires_none told alterations passes none 0 vs); plain = tt; ended = tt; accepted = λ still. tt }

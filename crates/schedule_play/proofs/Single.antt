@@ -6,7 +6,8 @@ use Rattle.table_schema.specs.declared.widths.Widths.{Widths}
 use Rattle.waldo_core.specs.Answers.{Begins, Carries, IsPlain}
 use Rattle.waldo_core.specs.Core.{Core}
 use Rattle.waldo_core.specs.Machines.{HasNoCase as HasNoCaseAt, Seen}
-use Rattle.waldo_core.specs.Step.{Suited, step}
+use Rattle.std.specs.Prelude.{◌||◌}
+use Rattle.waldo_core.specs.Step.{Suited, is_altered, step}
 use Rattle.waldo_core.specs.declared.events.Event.{Event}
 use Rattle.waldo_core.specs.declared.events.Reply.{Reply}
 use Rattle.waldo_words.specs.declared.schedule.Step.{Step}
@@ -31,6 +32,10 @@ entry x ms pair = record { step = x; messages = ms; pair = pair }
 some_if : {A : Type 0} (o : Option A) → IfSome o (λ (x : A). Unit {0})
 some_if None = tt
 some_if (Some x) = tt
+
+or_false : (a b : Bool) → b ≡ false → (a || b) ≡ a
+or_false true b e = refl
+or_false false b e = e
 
 module _ (s : Setting) (style : Style) (stage : Stage) (x : Step) where
   -- the stage after a step with an event
@@ -70,9 +75,9 @@ module _ {W : Type 0} (told : W → Option (List Message)) (alterations : W → 
   pub step_leads : (event : Event) (ms : List Message) (pair : OpenedPair) (core : Core) (reply : Reply) (i : ℕ) (v u : W) (end : Stage) → event_of s stage x ≡ Some event
       → Carries w stage.core event ms pair → step (room_of s) stage.core event pair ≡ Some (core, reply) → end ≡ with_reply s style stage x (core, reply)
       → actor_in x ≡ i → i < length vs → v ≡ get_or vs i v → Went told alterations passes v ms u → (is_answer x ≡ false → u ≡ v)
-      → ((Rose (alterations v) (alterations u) → ⊥) → IsPlain stage.core event pair)
+      → ((Rose (alterations v) (alterations u) → ⊥) → IsPlain stage.core event pair) → ((Rose (alterations v) (alterations u) → ⊥) → is_altered reply ≡ false)
       → Leads told alterations passes w s style stage vs (x ∷ []) end (set vs i u)
-  step_leads event ms pair core reply i v u end e carries does is_end own there is went quiet plain = record {
+  step_leads event ms pair core reply i v u end e carries does is_end own there is went quiet plain accepted = record {
     history = entry x ms pair ∷ [];
     sent = wires_one told alterations passes none (entry x ms pair) 0 i vs v u there is (own ∙ sym (zero-add i)) went quiet;
     plain = plain_one event ms pair i v u e own there is plain;
@@ -81,6 +86,7 @@ module _ {W : Type 0} (told : W → Option (List Message)) (alterations : W → 
       subst (λ (o : Option Event). CarriesOf w s stage o (entry x ms pair)) (sym e) carries,
       subst (λ (o : Option Stage). IsSomeAnd o (λ (next : Stage). end ≡ next)) (sym (next_is s style stage x event pair core reply e does)) is_end,
     );
+    calm = λ still. ap (λ (a : Stage). a.altered) is_end ∙ or_false stage.altered (is_altered reply) (accepted (λ rose. still i (rose_here told alterations passes i vs v u there is rose)));
   }
 
   -- a step that was done, but for its line

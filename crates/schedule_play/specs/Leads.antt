@@ -24,13 +24,14 @@ Advances w s style stage (x ∷ xs) (d ∷ ds) end =
 abbrev pub IsStill : {W : Type 0} → (W → ℕ) → List W → List W → ℕ → Type 0
 IsStill alterations before after actor = ¬ RoseAt alterations actor before after
 
--- the steps were done over these wires
+-- the steps were done over these wires; where none of them was altered, no check refused a pair
 pub record Leads {W : Type 0} (told : W → Option (List Message)) (alterations : W → ℕ) (passes : W → List Message → W → Type 0)
     (w : Widths) (s : Setting) (style : Style) (stage : Stage) (before : List W) (xs : List Step) (end : Stage) (after : List W) : Type 0 where
   pub history : List Done
   pub sent : WiresWent told alterations passes history 0 before after
   pub plain : ArePlain (IsStill alterations before after) s style stage history
   pub advances : Advances w s style stage xs history end
+  pub calm : ((actor : ℕ) → IsStill alterations before after actor) → end.altered ≡ stage.altered
 
 -- the first step without a case, by its number, where the first one has number t; or some first steps, and want of memory
 abbrev pub EndsAt : Widths → Setting → Style → ℕ → Stage → List Step → List Done → PlayFault → Type 0

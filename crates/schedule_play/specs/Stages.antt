@@ -12,7 +12,7 @@ use Rattle.table_schema.specs.declared.rows.Row.{Row}
 use Rattle.table_schema.specs.declared.shapes.Aggregate.{Aggregate}
 use Rattle.table_schema.specs.declared.shapes.Aggregate.TheVariants.{Count}
 use Rattle.waldo_core.specs.Core.{Core, empty_core}
-use Rattle.waldo_core.specs.Step.{step}
+use Rattle.waldo_core.specs.Step.{is_altered, step}
 use Rattle.waldo_core.specs.declared.events.Event.{Event}
 use Rattle.waldo_core.specs.declared.events.Event.TheVariants as events
 use Rattle.waldo_core.specs.declared.events.Reply.{Reply}
@@ -109,18 +109,6 @@ is_asked (replies.Agreed rows) = false
 is_asked (replies.Again server had floor) = true
 is_asked (replies.Answered rows total) = true
 is_asked (replies.Altered rows total weighted) = true
-
--- the check refused what was opened
-abbrev pub is_altered : Reply → Bool
-is_altered (replies.Drew place) = false
-is_altered (replies.Full capacity) = false
-is_altered replies.Placed = false
-is_altered (replies.Looked prefix) = false
-is_altered (replies.Fixed prefix) = false
-is_altered (replies.Agreed rows) = false
-is_altered (replies.Again server had floor) = false
-is_altered (replies.Answered rows total) = false
-is_altered (replies.Altered rows total weighted) = true
 
 -- the stage after a step whose event gave this core and this reply
 abbrev pub with_reply : Setting → Style → Stage → Step → Core × Reply → Stage

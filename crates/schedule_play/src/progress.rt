@@ -2,7 +2,8 @@
 ghost use Rattle.std.specs.Prelude.{ℕ, ◌≡◌, ◌+◌, ◌^◌, ◌<◌, ◌≤◌, [], ◌∷◌, ◌++◌, if◌then◌else◌, IfErr, IfOk, OnErr, OnOk, length, option_to_list, slice_get, slice_set, slice_index_or};
 ghost use Rattle.schedule_play.specs.Leads.{Leads, Stops};
 ghost use Rattle.schedule_play.specs.Plays.{seen};
-ghost use Rattle.schedule_play.specs.Stages.{actor_in, event_of, first_stage, is_altered, is_asked, lines_of, with_reply};
+ghost use Rattle.schedule_play.specs.Stages.{actor_in, event_of, first_stage, is_asked, lines_of, with_reply};
+ghost use Rattle.waldo_core.specs.Step.{is_altered};
 ghost use Rattle.schedule_play.specs.Tasks.{IsSetting};
 
 use crate::play::{PlayFault, Played};

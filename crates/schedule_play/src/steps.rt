@@ -3,7 +3,8 @@ ghost use Rattle.std.specs.Prelude.{◌≡◌, ◌+◌, ◌^◌, ◌<◌, if◌t
 ghost use Rattle.prg_chacha.specs.Prg.{derive_of};
 ghost use Rattle.schedule_play.specs.Plays.{seen};
 ghost use Rattle.schedule_play.specs.Ready.{is_drawn};
-ghost use Rattle.schedule_play.specs.Stages.{actor_in, aggregate_in, in_rounds, is_altered, is_asked, lines_of, server_in, who_of};
+ghost use Rattle.schedule_play.specs.Stages.{actor_in, aggregate_in, in_rounds, is_asked, lines_of, server_in, who_of};
+ghost use Rattle.waldo_core.specs.Step.{is_altered};
 
 use crate::setting::Setting;
 use crate::style::Style;
