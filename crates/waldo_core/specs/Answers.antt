@@ -29,13 +29,14 @@ pub record Opens (w : Widths) (order : List (Row × Seed)) (n : ℕ) (query : Qu
   pub total : pair.total ≡ opened_of (setup_over w order n query seed) ms 0
   pub weighted : pair.weighted ≡ opened_of (setup_over w order n query seed) ms 1
 
--- how many rows were agreed on
+-- how many rows some fixes agreed on
 abbrev pub agreed_in : Fixes → Option ℕ
 agreed_in Unfixed = None
 agreed_in (First p) = None
 agreed_in (Second p q) = None
 agreed_in (Agreed n) = Some n
 
+-- how many rows an actor agreed on
 abbrev pub rows_agreed : Option Actor → Option ℕ
 rows_agreed None = None
 rows_agreed (Some actor) = agreed_in actor.fixes

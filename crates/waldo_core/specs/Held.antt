@@ -16,7 +16,7 @@ use Rattle.table_schema.specs.declared.rows.Row.{Row}
 use Rattle.table_schema.specs.declared.widths.Widths.{Widths}
 use Rattle.waldo_core.specs.Answers.{rows_agreed}
 use Rattle.waldo_core.specs.Core.{Actor, Core, Fixes, Open, is_pending, journal_of, prefix, with_actor, with_journal}
-use Rattle.waldo_core.specs.Core.Fixes as fixes
+use Rattle.waldo_core.specs.Core.Fixes.{Unfixed, First, Second, Agreed}
 use Rattle.waldo_core.specs.Legal.{IsLegal}
 use Rattle.waldo_core.specs.Machines.{Seen}
 use Rattle.waldo_core.specs.Step.{acts, is_server, with_place}
@@ -81,10 +81,10 @@ seen_open (Some draw) = Some (seen_draw draw)
 
 -- snapshots are seen by their numbers of rows
 abbrev pub seen_fixes : (Snapshot → Held) → Snapshots → Fixes
-seen_fixes held found.Unfixed = fixes.Unfixed
-seen_fixes held (found.First s) = fixes.First (held s).rows
-seen_fixes held (found.Second s t) = fixes.Second (held s).rows (held t).rows
-seen_fixes held (found.Agreed a) = fixes.Agreed (held a.zero).rows
+seen_fixes held found.Unfixed = Unfixed
+seen_fixes held (found.First s) = First (held s).rows
+seen_fixes held (found.Second s t) = Second (held s).rows (held t).rows
+seen_fixes held (found.Agreed a) = Agreed (held a.zero).rows
 
 -- the server of the next fix
 abbrev pub next_server_of : Snapshots → ℕ
@@ -163,14 +163,15 @@ pub record AgreesAfter (held : Snapshot → Held) (logs : Logs) (old : Snapshots
   pub one : Snapshot
   pub two : Snapshot
   pub before : old ≡ found.Second zero one
+  pub legal : IsLog logs.two
   pub third : IsFixOf (held two) logs.two
   pub cuts : AreCuts (held zero) (held one) (held two) (held a.zero) (held a.one) (held a.two)
 
 -- what the fixes have found after one more: nothing, or a snapshot beside those from before
 abbrev pub Kept : (Snapshot → Held) → Logs → Snapshots → Snapshots → Type 0
 Kept held logs old found.Unfixed = ⊤
-Kept held logs old (found.First s) = IsFixOf (held s) logs.zero
-Kept held logs old (found.Second s t) = (old ≡ found.First s) × IsFixOf (held t) logs.one
+Kept held logs old (found.First s) = IsLog logs.zero × IsFixOf (held s) logs.zero
+Kept held logs old (found.Second s t) = (old ≡ found.First s) × IsLog logs.one × IsFixOf (held t) logs.one
 Kept held logs old (found.Agreed a) = AgreesAfter held logs old a
 
 -- a fix

@@ -133,3 +133,8 @@ Suited w (events.Place number k) = ⊤
 Suited w (events.Look number k) = ⊤
 Suited w (events.Fix number) = ⊤
 Suited w (events.Answer number query seed) = Suits w.columns w.bits query
+
+-- the check refused what was opened
+abbrev pub is_altered : Reply → Bool
+is_altered (replies.Altered rows total weighted) = true
+is_altered reply = false

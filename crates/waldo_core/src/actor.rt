@@ -1,5 +1,6 @@
 //! An actor's steps.
-ghost use Rattle.std.specs.Prelude.{◌≡◌, ◌<◌, ◌+◌, ◌^◌, Some, None, IfOk, OnErr, is_some, not, ◌||◌, max};
+ghost use Rattle.std.specs.Prelude.{◌≡◌, ◌<◌, ◌+◌, ◌^◌, IfOk, OnErr, is_some, not, ◌||◌};
+ghost use Rattle.std.specs.Option.{ForSome};
 ghost use Rattle.waldo_core.specs.Core.{is_pending as pending_in};
 ghost use Rattle.waldo_core.specs.Step.{with_draw};
 ghost use Rattle.waldo_core.specs.Held.{CanPlace, Fixed, Keeps, Looks, Places, fresh_state, seen_actor, seen_draw, seen_fixes};
@@ -42,7 +43,7 @@ impl ActorState {
     }
 
     /// Opens a draw.
-    pub(crate) fn open(&mut self, draw: OpenDraw)
+    pub(crate) fn begin(&mut self, draw: OpenDraw)
         ensures { self.new ≡ record { floor = self.old.floor; draw = Some draw; snapshots = Snapshots.Unfixed } }
     {
         self.draw = Some(draw);
@@ -68,7 +69,7 @@ impl ActorState {
     fn go_on(&mut self, draw: OpenDraw)
         requires { draw.place + 1 < 2 ^ 64 }
         ensures seen { let held = ⟦<Snapshot as Shelf>⟧.held in seen_actor held self.new ≡ with_draw (seen_actor held self.old) (seen_draw draw) }
-        ensures left { (d : _) → self.new.draw ≡ Some d → d ≡ draw }
+        ensures left { ForSome self.new.draw (λ d. d ≡ draw) }
         ensures unfixed { self.new.snapshots ≡ Snapshots.Unfixed }
     {
         self.snapshots = Snapshots::Unfixed;

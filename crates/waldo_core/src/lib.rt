@@ -30,3 +30,6 @@ mod snapshots;
 
 pub use events::{Event, Reply, StepFault};
 pub use machine::Machine;
+
+#[cfg(test)]
+mod tests;

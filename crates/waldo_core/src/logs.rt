@@ -1,13 +1,13 @@
 //! The logs of the three servers.
-ghost use Rattle.std.specs.Prelude.{◌≡◌, ◌<◌, Some, IfOk, take};
-ghost use Rattle.onehot_column.specs.declared.piece.Piece.{Piece};
+ghost use Rattle.std.specs.Prelude.{◌≡◌, ◌<◌, IfOk};
+ghost use Rattle.std.specs.Option.{ForSome};
 ghost use Rattle.table_schema.specs.Widths.{Fits, column_bits};
 ghost use Rattle.prefix_log.specs.Logs.{IsLog, IsOwn, empty_log};
 ghost use Rattle.waldo_core.specs.Core.{prefix as prefix_in};
 ghost use Rattle.waldo_core.specs.Held.{IsFixOf, log_of, with_piece};
 
 use onehot_column::Piece;
-use prefix_log::{ServerLog, Snapshot, laws};
+use prefix_log::{ServerLog, Snapshot};
 use ring128::Memory;
 use scan_chunks::Shelf;
 use std::alloc::Global;
@@ -51,7 +51,7 @@ impl Logs {
     /// Puts a piece at a place of a server, where there is one to put.
     pub(crate) fn place(&mut self, server: u8, place: u64, piece: Option<Piece>)
         requires below { place < (log_of self.old server).capacity }
-        requires own { (p : Piece) → piece ≡ Some p → IsOwn (log_of self.old server).server (log_of self.old server).widths p }
+        requires own { ForSome piece (IsOwn (log_of self.old server).server (log_of self.old server).widths) }
         ensures { self.new ≡ with_piece self.old server place piece }
     {
         let Some(piece) = piece else {

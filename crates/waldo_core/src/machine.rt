@@ -1,5 +1,5 @@
 //! The machine.
-ghost use Rattle.std.specs.Prelude.{◌≡◌, ◌<◌, ◌≤◌, None, Some, List, Ok, Err, IfOk, IfErr, IfNone, IfSome, IsOk, length, slice_get};
+ghost use Rattle.std.specs.Prelude.{◌≡◌, ◌≤◌, None, List, Ok, Err, IfOk, IfErr, IfNone, IfSome, IsOk, false, slice_get};
 ghost use Rattle.fault_count.specs.Causes.{Rose};
 ghost use Rattle.list_facts.specs.Listed.{listed};
 ghost use Rattle.table_schema.specs.Widths.{Fits, Holds, column_bits};
@@ -10,10 +10,11 @@ ghost use Rattle.waldo_core.specs.Answers.{IsPlain, IsQuiet, rows_agreed};
 ghost use Rattle.waldo_core.specs.Legal.{IsLegal};
 ghost use Rattle.waldo_core.specs.Machines.{HasOpenFault, IsHeld, Stepped, new_machine};
 ghost use Rattle.waldo_core.specs.Outcomes.{Quietly, named};
+ghost use Rattle.waldo_core.specs.Step.{is_altered};
 ghost use Rattle.waldo_core.specs.Held.{IsAgreement, fresh_state};
 
 use crate::actor::ActorState;
-use crate::answer::{open, reply_over};
+use crate::answer::{open_pair, reply_over};
 use crate::draw::OpenDraw;
 use crate::events::{Event, Reply, StepFault};
 use crate::logs::Logs;
@@ -79,14 +80,14 @@ impl Machine {
                 had: widths.cells(capacity),
             });
         }
-        match Machine::open(alloc, &widths, capacity, workers) {
+        match Machine::fitting(alloc, &widths, capacity, workers) {
             Ok(machine) => Ok(machine),
             Err(_) => Err(OpenFault::Memory),
         }
     }
 
     // The same for a capacity that fits. All memory for the order is taken here.
-    fn open(
+    fn fitting(
         alloc: Global,
         widths: &Widths,
         capacity: u32,
@@ -121,11 +122,15 @@ impl Machine {
         ensures stepped { (ms : List Message) × (pair : OpenedPair) × Went W.told W.alterations W.passes wire.old ms wire.new
             × Stepped self.old event ms pair self.new result
             × (¬ Rose (W.alterations wire.old) (W.alterations wire.new) → IsOk result → IsPlain self.old.core event pair) }
+        ensures accepted { ¬ Rose (W.alterations wire.old) (W.alterations wire.new) → IfOk result (λ reply. is_altered reply ≡ false) }
+        ensures widths { self.new.widths ≡ self.old.widths }
         ensures legal { IsLegal self.new.core }
         ensures quiet { IsQuiet event → wire.new ≡ wire.old }
         ensures refused { (given : Event) → result ≡ Err (StepFault.NotAllowed given) → wire.new ≡ wire.old }
     {
-        match self.act(rt, alloc, event, wire) {
+        let done = self.act(rt, alloc, event, wire);
+        let _ = &self.order; // a look at the machine, whose core is legal
+        match done {
             Ok(Some(reply)) => Ok(reply),
             Ok(None) => Err(StepFault::NotAllowed { event }),
             Err(_) => Err(StepFault::Memory),
@@ -144,7 +149,9 @@ impl Machine {
         ensures stepped { (ms : List Message) × (pair : OpenedPair) × Went W.told W.alterations W.passes wire.old ms wire.new
             × Stepped self.old event ms pair self.new (named event result)
             × (¬ Rose (W.alterations wire.old) (W.alterations wire.new) → IsOk (named event result) → IsPlain self.old.core event pair) }
+        ensures accepted { ¬ Rose (W.alterations wire.old) (W.alterations wire.new) → IfOk (named event result) (λ reply. is_altered reply ≡ false) }
         ensures quiet { IsQuiet event → wire.new ≡ wire.old }
+        ensures refused { result ≡ Ok None → wire.new ≡ wire.old }
     {
         match event {
             Event::Draw { actor, row, seed } => self.draw(alloc, actor, &row, &seed),
@@ -180,7 +187,7 @@ impl Machine {
         }
         let RowPieces { zero, one, two } = pieces(alloc, &self.widths, row, seed)?;
         self.order.push_reserved((*row, *seed));
-        self.actors[i].open(OpenDraw {
+        self.actors[i].begin(OpenDraw {
             place,
             zero: Some(zero),
             one: Some(one),
@@ -249,10 +256,13 @@ impl Machine {
         seed: &Seed,
         wire: &mut W,
     ) -> Result<Option<Reply>, Memory>
-        ensures { let event = Event.Answer number query.now seed.now in
+        ensures stepped { let event = Event.Answer number query.now seed.now in
             (ms : List Message) × (pair : OpenedPair) × Went W.told W.alterations W.passes wire.old ms wire.new
             × Stepped self.now event ms pair self.now (named event result)
             × (¬ Rose (W.alterations wire.old) (W.alterations wire.new) → IsOk (named event result) → IsPlain self.now.core event pair) }
+        ensures accepted { ¬ Rose (W.alterations wire.old) (W.alterations wire.new)
+            → IfOk (named (Event.Answer number query.now seed.now) result) (λ reply. is_altered reply ≡ false) }
+        ensures refused { result ≡ Ok None → wire.new ≡ wire.old }
     {
         let Some(agreement) = self.agreement(number) else {
             return Ok(None);
@@ -261,7 +271,7 @@ impl Machine {
             return Ok(None);
         }
         let keys = make_keys(alloc, query, &self.widths, seed)?;
-        let pair = open(rt, alloc, agreement, self.workers, &keys, wire)?;
+        let pair = open_pair(rt, alloc, agreement, self.workers, &keys, wire)?;
         Ok(Some(reply_over(agreement.rows(), pair, &keys)))
     }
 }

@@ -1,0 +1,9 @@
+use Rattle.std.proofs.Common.{◌∙◌, refl, sym}
+use Rattle.prefix_log.specs.contracts.snapshot.SnapshotShelf.TheImpl.{held-value}
+use Rattle.waldo_core.proofs.Fixing.{keeps_third}
+use Rattle.waldo_core.proofs.actor.ActorState.keep.Goals as goal
+
+pub returns : goal.returns
+returns c =
+    keeps_third (held-value).it c.args.snapshot c.args.self.now.snapshots c.args.self.now _ _ c.in-Second.zero c.in-Second.one c.of-agreement.result c.rows-rows.result
+    (sym c.replace.ensures.value ∙ c.in-Second.is) c.of-agreement.ensures c.rows-rows.ensures refl refl

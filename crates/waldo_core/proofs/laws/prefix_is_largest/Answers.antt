@@ -1,0 +1,5 @@
+use Rattle.waldo_core.proofs.Prefixes.{prefix_is_largest}
+use Rattle.waldo_core.proofs.laws.prefix_is_largest.Goals as goal
+
+pub returns : goal.returns
+returns c = prefix_is_largest
