@@ -1,5 +1,5 @@
 -- Steps that lead from stage to stage, one after another.
-use Rattle.std.proofs.Common.{◌≡◌, ◌∙◌, refl, sym, ap, subst, ℕ, zero, suc, ◌+◌, ◌<◌, inl, inr, List, [], ◌∷◌, ◌++◌, length, Option, Some, None, Result, Ok, Err, IsSomeAnd, IfSome, arith}
+use Rattle.std.proofs.Common.{◌≡◌, ◌∙◌, refl, sym, ap, subst, ℕ, suc, ◌+◌, ◌<◌, inl, inr, List, [], ◌∷◌, ◌++◌, length, Option, Some, None, Result, Ok, Err, IsSomeAnd, IfSome, arith}
 use Rattle.table_schema.specs.declared.widths.Widths.{Widths}
 use Rattle.server_rounds.specs.declared.opened.OpenedPair.{OpenedPair}
 use Rattle.waldo_words.specs.declared.schedule.Step.{Step}
@@ -37,7 +37,7 @@ plain_weaker P Q s style f [] stage p = tt
 plain_weaker P Q s style f (d ∷ ds) stage p = (
   (λ q. p.0 (f (actor_in d.step) q)),
   if_some (next_stage s style stage d.step d.pair) (λ (next : Stage). ArePlain P s style next ds) (λ (next : Stage). ArePlain Q s style next ds)
-  (λ next a. plain_weaker P Q s style f ds next a) p.1,
+      (λ next a. plain_weaker P Q s style f ds next a) p.1,
 )
 
 module _ (w : Widths) (s : Setting) (style : Style) where
@@ -50,7 +50,7 @@ module _ (w : Widths) (s : Setting) (style : Style) where
     p.0,
     p.1,
     some_and (next_stage s style stage x d.pair) (λ (next : Stage). Advances w s style next xs ds mid) (λ (next : Stage). Advances w s style next (xs ++ ys) (ds ++ es) end)
-    (λ next a. advances_both xs ys ds es next mid end a q) p.2,
+        (λ next a. advances_both xs ys ds es next mid end a q) p.2,
   )
 
   -- a history, from a later stage on
@@ -63,7 +63,7 @@ module _ (w : Widths) (s : Setting) (style : Style) where
     p.0,
     p.1,
     some_and (next_stage s style stage x d.pair) (λ (next : Stage). Advances w s style next xs ds mid) (λ (next : Stage). IsHistory w s style next (xs ++ ys) (ds ++ es))
-    (λ next a. history_after xs ys ds es next mid a q) p.2,
+        (λ next a. history_after xs ys ds es next mid a q) p.2,
   )
 
   pub breaks_after : (xs ys : List Step) (ds es : List Done) (stage mid : Stage) → Advances w s style stage xs ds mid → Breaks w s style mid ys es
@@ -76,7 +76,7 @@ module _ (w : Widths) (s : Setting) (style : Style) where
     inl (
       p.1,
       some_and (next_stage s style stage x d.pair) (λ (next : Stage). Advances w s style next xs ds mid) (λ (next : Stage). Breaks w s style next (xs ++ ys) (ds ++ es))
-      (λ next a. breaks_after xs ys ds es next mid a q) p.2,
+          (λ next a. breaks_after xs ys ds es next mid a q) p.2,
     ),
   )
 
@@ -88,8 +88,8 @@ module _ (w : Widths) (s : Setting) (style : Style) where
   plain_after P (x ∷ xs) (d ∷ ds) es stage mid p f g = (
     f.0,
     if_some_and (next_stage s style stage d.step d.pair) (λ (next : Stage). Advances w s style next xs ds mid) (λ (next : Stage). ArePlain P s style next ds)
-    (λ (next : Stage). ArePlain P s style next (ds ++ es)) (λ next a b. plain_after P xs ds es next mid a b g)
-    (subst (λ (y : Step). IsSomeAnd (next_stage s style stage y d.pair) (λ (next : Stage). Advances w s style next xs ds mid)) (sym p.0) p.2) f.1,
+        (λ (next : Stage). ArePlain P s style next (ds ++ es)) (λ next a b. plain_after P xs ds es next mid a b g)
+        (subst (λ (y : Step). IsSomeAnd (next_stage s style stage y d.pair) (λ (next : Stage). Advances w s style next xs ds mid)) (sym p.0) p.2) f.1,
   )
 
   -- all steps were done: that is a history of them
@@ -101,7 +101,7 @@ module _ (w : Widths) (s : Setting) (style : Style) where
     p.0,
     p.1,
     some_and (next_stage s style stage x d.pair) (λ (next : Stage). Advances w s style next xs ds end) (λ (next : Stage). IsHistory w s style next xs ds)
-    (λ next a. history_of xs ds next end a) p.2,
+        (λ next a. history_of xs ds next end a) p.2,
   )
 
   pub length_advances : (xs : List Step) (ds : List Done) (stage end : Stage) → Advances w s style stage xs ds end → length ds ≡ length xs
@@ -119,7 +119,7 @@ module _ (w : Widths) (s : Setting) (style : Style) where
     h.0,
     h.1,
     some_and (next_stage s style stage x d.pair) (λ (next : Stage). IsHistory w s style next xs ds) (λ (next : Stage). IsHistory w s style next (xs ++ ys) ds)
-    (λ next a. history_more xs ys ds next (omega arith) a) h.2,
+        (λ next a. history_more xs ys ds next (omega arith) a) h.2,
   )
 
   pub breaks_more : (xs ys : List Step) (ds : List Done) (stage : Stage) → Breaks w s style stage xs ds → Breaks w s style stage (xs ++ ys) ds
@@ -131,7 +131,7 @@ module _ (w : Widths) (s : Setting) (style : Style) where
       | inl p ↦ inl (
         p.0,
         some_and (next_stage s style stage x d.pair) (λ (next : Stage). Breaks w s style next xs ds) (λ (next : Stage). Breaks w s style next (xs ++ ys) ds)
-        (λ next a. breaks_more xs ys ds next a) p.1,
+            (λ next a. breaks_more xs ys ds next a) p.1,
       )
       | inr q ↦ inr q
     ],

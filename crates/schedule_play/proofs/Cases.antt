@@ -1,5 +1,5 @@
 -- The event of a step, case by case.
-use Rattle.std.proofs.Common.{◌≡◌, ◌∙◌, refl, sym, ap, subst, ℕ, ◌<◌, ◌≤◌, Bool, true, false, List, [], ◌∷◌, All, length, get_or, slice_get, Option, Some, None, option_map, arith}
+use Rattle.std.proofs.Common.{◌≡◌, refl, sym, ap, subst, ℕ, ◌≤◌, false, List, All, length, slice_get, Option, Some, None, option_map, arith}
 use Rattle.std.proofs.lemmas.Option.{get_or_from_slice_get, same_Some, slice_get_past, slice_get_within}
 use Rattle.query_plan.specs.Query.{Suits}
 use Rattle.query_plan.specs.declared.query.Query.{Query}
@@ -19,7 +19,7 @@ use Rattle.waldo_words.specs.declared.schedule.Step.TheVariants as steps
 use Rattle.schedule_play.specs.History.{is_answer}
 use Rattle.schedule_play.specs.Plain.{plain_of, plain_over}
 use Rattle.schedule_play.specs.Stages.{Stage, actor_in, event_of, round_of, step_of}
-use Rattle.schedule_play.specs.Tasks.{IsSetting, Setting, room_of}
+use Rattle.schedule_play.specs.Tasks.{Setting, room_of}
 
 -- what a value was made of
 from_map : {A B : Type 0} (f : A → B) (o : Option A) (y : B) → option_map f o ≡ Some y → (x : A) × (o ≡ Some x) × (f x ≡ y)

@@ -1,5 +1,5 @@
 -- A loop over steps, from one time round to the next.
-use Rattle.std.proofs.Common.{◌≡◌, ◌∙◌, refl, sym, ap, subst, ℕ, ◌+◌, List, [], ◌∷◌, ◌++◌, length, Option, arith, length-append}
+use Rattle.std.proofs.Common.{◌≡◌, sym, subst, ℕ, ◌+◌, List, [], ◌++◌, length, Option, arith, length-append}
 use Rattle.table_schema.specs.declared.widths.Widths.{Widths}
 use Rattle.wire_line.specs.Carried.{BothPass, NonePasses}
 use Rattle.wire_line.specs.declared.message.Message.{Message}

@@ -1,14 +1,14 @@
 -- What steps came to, put together of what some of them and the others came to.
-use Rattle.std.proofs.Common.{◌≡◌, ◌∙◌, refl, sym, ap, subst, ℕ, ◌+◌, ◌<◌, List, [], ◌∷◌, ◌++◌, length, Option, Result, Ok, Err, append-nil, length-append, arith}
+use Rattle.std.proofs.Common.{◌≡◌, ◌∙◌, refl, sym, ap, subst, ℕ, ◌+◌, ◌<◌, List, [], ◌++◌, length, Option, Ok, Err, length-append, arith}
 use Rattle.table_schema.specs.declared.widths.Widths.{Widths}
 use Rattle.wire_line.specs.Carried.{BothPass, NonePasses}
 use Rattle.wire_line.specs.declared.message.Message.{Message}
 use Rattle.waldo_words.specs.declared.schedule.Step.{Step}
-use Rattle.schedule_play.specs.History.{Breaks, Done, IsHistory, opened_in, pair_at}
+use Rattle.schedule_play.specs.History.{Done, pair_at}
 use Rattle.schedule_play.specs.Leads.{Advances, EndsAt, IsStill, Leads, Stops}
 use Rattle.schedule_play.specs.Plain.{ArePlain}
 use Rattle.schedule_play.specs.Plays.{EndsWith, Ended, Plays}
-use Rattle.schedule_play.specs.Stages.{Stage, first_stage, played}
+use Rattle.schedule_play.specs.Stages.{Stage, first_stage}
 use Rattle.schedule_play.specs.Tasks.{Setting, Task}
 use Rattle.schedule_play.specs.Wires.{WiresWent}
 use Rattle.schedule_play.specs.declared.play.PlayFault.{PlayFault}
@@ -86,21 +86,24 @@ ended_at w task history (NotAllowed index) p =
 ended_at w task history Memory p = p
 
 module _ {W : Type 0} (told : W → Option (List Message)) (alterations : W → ℕ) (passes : W → List Message → W → Type 0) (w : Widths) (task : Task) (vs ws : List W) where
-  pub leads_plays : (end : Stage) (p : Played) → Leads told alterations passes w task.setting task.style first_stage vs task.steps end ws → p.report ≡ end.lines → p.altered ≡ end.altered
-      → Plays w task (λ history. WiresWent told alterations passes history 0 vs ws) (IsStill alterations vs ws) (Ok p)
-  leads_plays end p leads report altered = record {
-    history = leads.history;
-    sent = leads.sent;
-    plain = leads.plain;
-    ended = (
-      history_of w task.setting task.style task.steps leads.history first_stage end leads.advances,
-      subst (EndsWith p)
-      (sym (played_all w task.setting task.style (pair_at leads.history) task.steps leads.history 0 first_stage end leads.advances (same_pairs leads.history)))
-      (report, altered),
-    );
-  }
+  pub leads_plays : (stage end : Stage) (p : Played) → stage ≡ first_stage → Leads told alterations passes w task.setting task.style stage vs task.steps end ws → p.report ≡ end.lines
+      → p.altered ≡ end.altered → Plays w task (λ history. WiresWent told alterations passes history 0 vs ws) (IsStill alterations vs ws) (Ok p)
+  leads_plays stage end p first found report altered =
+      let leads : Leads told alterations passes w task.setting task.style first_stage vs task.steps end ws =
+      subst (λ (a : Stage). Leads told alterations passes w task.setting task.style a vs task.steps end ws) first found in
+      record {
+        history = leads.history;
+        sent = leads.sent;
+        plain = leads.plain;
+        ended = (
+          history_of w task.setting task.style task.steps leads.history first_stage end leads.advances,
+          subst (EndsWith p)
+          (sym (played_all w task.setting task.style (pair_at leads.history) task.steps leads.history 0 first_stage end leads.advances (same_pairs leads.history)))
+          (report, altered),
+        );
+      }
 
-  pub stops_plays : (fault : PlayFault) → Stops told alterations passes w task.setting task.style 0 first_stage vs task.steps ws fault
+  pub stops_plays : (t : ℕ) (stage : Stage) (fault : PlayFault) → t ≡ 0 → stage ≡ first_stage → Stops told alterations passes w task.setting task.style t stage vs task.steps ws fault
       → Plays w task (λ history. WiresWent told alterations passes history 0 vs ws) (IsStill alterations vs ws) (Err fault)
   stops_plays fault stops = record { history = stops.history; sent = stops.sent; plain = stops.plain; ended = ended_at w task stops.history fault stops.ends; accepted = λ still. tt }
 

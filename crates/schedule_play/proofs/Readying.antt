@@ -1,15 +1,15 @@
 -- What is kept after a step.
-use Rattle.std.proofs.Common.{◌≡◌, ◌∙◌, refl, sym, ap, subst, ℕ, zero, suc, ◌+◌, ◌<◌, ◌≤◌, Bool, true, false, cond, List, [], ◌∷◌, length, get_or, set, Option, Some, None, arith}
+use Rattle.std.proofs.Common.{◌≡◌, ◌∙◌, sym, ap, ℕ, zero, suc, ◌+◌, ◌≤◌, Bool, true, false, cond, List, [], ◌∷◌, length, get_or, set, Some, arith}
 use Rattle.server_rounds.specs.declared.opened.OpenedPair.{OpenedPair}
 use Rattle.table_schema.specs.declared.widths.Widths.{Widths}
 use Rattle.waldo_core.specs.Core.{Core}
 use Rattle.waldo_core.specs.Legal.{IsLegal}
 use Rattle.waldo_core.specs.Machines.{Seen}
-use Rattle.waldo_core.specs.Step.{actor_of, step}
+use Rattle.waldo_core.specs.Step.{step}
 use Rattle.waldo_core.specs.declared.events.Event.{Event}
 use Rattle.waldo_core.specs.declared.events.Reply.{Reply}
 use Rattle.schedule_play.specs.Ready.{IsReady, is_drawn}
-use Rattle.schedule_play.specs.Tasks.{Setting, room_of}
+use Rattle.schedule_play.specs.Tasks.{Setting}
 use Rattle.schedule_play.specs.declared.progress.Progress.{Progress}
 use Rattle.schedule_play.proofs.Growing.{order_grows}
 

@@ -1,5 +1,5 @@
 -- One step at a machine.
-use Rattle.std.proofs.Common.{◌≡◌, ◌∙◌, refl, sym, ap, subst, ℕ, ◌+◌, ◌<◌, ◌≤◌, ◌⊎◌, inl, inr, Bool, true, false, List, [], ◌∷◌, length, get_or, set, Option, Some, None, option_map, IsSomeAnd, IfSome, arith, zero-add}
+use Rattle.std.proofs.Common.{◌≡◌, ◌∙◌, refl, sym, ap, subst, ℕ, ◌<◌, ◌≤◌, inl, inr, false, List, [], ◌∷◌, length, get_or, set, Option, Some, None, option_map, IsSomeAnd, IfSome, arith, zero-add}
 use Rattle.fault_count.specs.Causes.{Rose}
 use Rattle.server_rounds.specs.declared.opened.OpenedPair.{OpenedPair}
 use Rattle.table_schema.specs.declared.widths.Widths.{Widths}
@@ -11,11 +11,11 @@ use Rattle.waldo_core.specs.Step.{Suited, is_altered, step}
 use Rattle.waldo_core.specs.declared.events.Event.{Event}
 use Rattle.waldo_core.specs.declared.events.Reply.{Reply}
 use Rattle.waldo_words.specs.declared.schedule.Step.{Step}
-use Rattle.wire_line.specs.Carried.{BothPass, NonePasses}
+use Rattle.wire_line.specs.Carried.{NonePasses}
 use Rattle.wire_line.specs.Messages.{Went}
 use Rattle.wire_line.specs.declared.message.Message.{Message}
 use Rattle.schedule_play.specs.History.{CarriesOf, BeginsOf, Done, HasNoCase, is_answer}
-use Rattle.schedule_play.specs.Leads.{Advances, IsStill, Leads, Stops}
+use Rattle.schedule_play.specs.Leads.{IsStill, Leads, Stops}
 use Rattle.schedule_play.specs.Plain.{ArePlain, IsPlainOf, plain_of}
 use Rattle.schedule_play.specs.Stages.{Stage, actor_in, event_of, next_stage, step_of, with_reply}
 use Rattle.schedule_play.specs.Tasks.{Setting, room_of}

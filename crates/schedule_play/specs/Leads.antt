@@ -1,5 +1,5 @@
 -- What some steps did from one stage on: all of them, up to another stage, or those before the first that was not done.
-use Rattle.std.specs.Prelude.{ℕ, ◌≡◌, ◌+◌, ◌<◌, ⊤, IsSomeAnd, Option, List, [], ◌∷◌, length}
+use Rattle.std.specs.Prelude.{ℕ, ◌≡◌, ◌+◌, ◌<◌, IsSomeAnd, Option, List, [], ◌∷◌, length}
 use Rattle.table_schema.specs.declared.widths.Widths.{Widths}
 use Rattle.wire_line.specs.declared.message.Message.{Message}
 use Rattle.waldo_words.specs.declared.schedule.Step.{Step}

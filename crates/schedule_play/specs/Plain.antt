@@ -1,5 +1,5 @@
 -- What steps come to where nothing is altered.
-use Rattle.std.specs.Prelude.{ℕ, ◌≡◌, ◌+◌, ⊤, IfSome, Option, Some, None, List, [], ◌∷◌, length, slice_get}
+use Rattle.std.specs.Prelude.{ℕ, ◌+◌, ⊤, IfSome, Option, Some, None, List, [], ◌∷◌, length, slice_get}
 use Rattle.server_rounds.specs.declared.opened.OpenedPair.{OpenedPair}
 use Rattle.onehot_column.specs.Code.{word_of}
 use Rattle.prg_chacha.specs.declared.seed.Seed.{Seed}
@@ -13,7 +13,6 @@ use Rattle.waldo_core.specs.Answers.{IsPlain, plain_pair, rows_agreed}
 use Rattle.waldo_core.specs.declared.events.Event.{Event}
 use Rattle.waldo_core.specs.declared.events.Event.TheVariants as events
 use Rattle.waldo_core.specs.Core.{Core}
-use Rattle.waldo_words.specs.declared.schedule.Step.{Step}
 use Rattle.schedule_play.specs.History.{Done, nothing_opened}
 use Rattle.schedule_play.specs.Stages.{Opening, Stage, actor_in, event_of, next_stage}
 use Rattle.schedule_play.specs.Tasks.{Setting}

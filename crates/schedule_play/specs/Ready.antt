@@ -1,5 +1,5 @@
 -- What is kept between two steps.
-use Rattle.std.specs.Prelude.{ℕ, ◌≡◌, ◌≤◌, Bool, true, false, Option, Some, None, length, slice_index_or}
+use Rattle.std.specs.Prelude.{ℕ, ◌≡◌, ◌≤◌, Bool, true, false, length, slice_index_or}
 use Rattle.table_schema.specs.declared.widths.Widths.{Widths}
 use Rattle.waldo_core.specs.declared.events.Reply.{Reply}
 use Rattle.waldo_core.specs.declared.events.Reply.TheVariants as replies

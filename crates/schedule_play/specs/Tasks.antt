@@ -1,5 +1,5 @@
 -- What a command does once its rows are known: which steps, over which rows and queries, and how they are reported.
-use Rattle.std.specs.Prelude.{ℕ, ◌≡◌, ◌≤◌, ◌<◌, Bool, Option, List, [], ◌∷◌, ◌++◌, All, length, max}
+use Rattle.std.specs.Prelude.{ℕ, ◌≡◌, List, [], ◌∷◌, ◌++◌, All, length, max}
 use Rattle.std.specs.List.{flat_map, range_with_len}
 use Rattle.prg_chacha.specs.declared.seed.Seed.{Seed}
 use Rattle.query_plan.specs.Query.{Suits}

@@ -63,9 +63,18 @@ fn append_rows<R: Threads + Sync, W: Wire>(
 {
     let steps = [
         Step::Draw { actor: 0 },
-        Step::Place { actor: 0, server: 0 },
-        Step::Place { actor: 0, server: 1 },
-        Step::Place { actor: 0, server: 2 },
+        Step::Place {
+            actor: 0,
+            server: 0,
+        },
+        Step::Place {
+            actor: 0,
+            server: 1,
+        },
+        Step::Place {
+            actor: 0,
+            server: 2,
+        },
     ];
     for _row in 0..setting.rows.len() {
         progress.steps(rt, alloc, setting, Style::Queries, &steps, wires)?;

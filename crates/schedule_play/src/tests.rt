@@ -19,12 +19,27 @@ type Case = (&'static [Step], Result<&'static str, u64>);
 // Actor 0's first row stays away from server 2, so that actor 1, whose own row is everywhere, misses rows there.
 const GAP: [Step; 10] = [
     Draw { actor: 0 },
-    Place { actor: 0, server: 0 },
-    Place { actor: 0, server: 1 },
+    Place {
+        actor: 0,
+        server: 0,
+    },
+    Place {
+        actor: 0,
+        server: 1,
+    },
     Draw { actor: 1 },
-    Place { actor: 1, server: 0 },
-    Place { actor: 1, server: 1 },
-    Place { actor: 1, server: 2 },
+    Place {
+        actor: 1,
+        server: 0,
+    },
+    Place {
+        actor: 1,
+        server: 1,
+    },
+    Place {
+        actor: 1,
+        server: 2,
+    },
     Fix { actor: 1 },
     Fix { actor: 1 },
     Fix { actor: 1 },
@@ -32,16 +47,34 @@ const GAP: [Step; 10] = [
 
 const CLOSED: [Step; 15] = [
     Draw { actor: 0 },
-    Place { actor: 0, server: 0 },
-    Place { actor: 0, server: 1 },
+    Place {
+        actor: 0,
+        server: 0,
+    },
+    Place {
+        actor: 0,
+        server: 1,
+    },
     Draw { actor: 1 },
-    Place { actor: 1, server: 0 },
-    Place { actor: 1, server: 1 },
-    Place { actor: 1, server: 2 },
+    Place {
+        actor: 1,
+        server: 0,
+    },
+    Place {
+        actor: 1,
+        server: 1,
+    },
+    Place {
+        actor: 1,
+        server: 2,
+    },
     Fix { actor: 1 },
     Fix { actor: 1 },
     Fix { actor: 1 },
-    Place { actor: 0, server: 2 },
+    Place {
+        actor: 0,
+        server: 2,
+    },
     Fix { actor: 1 },
     Fix { actor: 1 },
     Fix { actor: 1 },
@@ -60,13 +93,28 @@ const CASES: [Case; 8] = [
         ),
     ),
     (&[Answer { actor: 0, query: 0 }], Err(0)),
-    (&[Look { actor: 2, server: 1 }], Ok("look 2 server 1 prefix 0\n")),
+    (
+        &[Look {
+            actor: 2,
+            server: 1,
+        }],
+        Ok("look 2 server 1 prefix 0\n"),
+    ),
     (
         &[
             Draw { actor: 0 },
-            Place { actor: 0, server: 0 },
-            Place { actor: 0, server: 0 },
-            Look { actor: 1, server: 0 },
+            Place {
+                actor: 0,
+                server: 0,
+            },
+            Place {
+                actor: 0,
+                server: 0,
+            },
+            Look {
+                actor: 1,
+                server: 0,
+            },
         ],
         Ok("draw 0 place 0\nlook 1 server 0 prefix 1\n"),
     ),

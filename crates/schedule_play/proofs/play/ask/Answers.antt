@@ -1,12 +1,62 @@
-use Rattle.std.proofs.Common.{rules, ◌≡◌, refl, arith}
+use Rattle.std.proofs.Common.{rules, ◌≡◌, ℕ, ◌+◌, ◌*◌, refl, subst, length, List, arith}
+use Rattle.std.specs.List.{flat_map, range_with_len}
 use Rattle.std.proofs.lemmas.Result.{err_from_is_err_and}
-use Rattle.schedule_play.specs.Plays.{Plays, seen}
-use Rattle.schedule_play.specs.Tasks.{asking, scheduled}
-use Rattle.schedule_play.proofs.Outcomes.{nothing_plays}
+use Rattle.waldo_words.specs.declared.schedule.Step.{Step}
+use Rattle.schedule_play.specs.Leads.{Stops}
+use Rattle.schedule_play.specs.Plays.{seen}
+use Rattle.schedule_play.specs.Ready.{stage_of}
+use Rattle.schedule_play.specs.Tasks.{append_steps, ask_steps, asking}
+use Rattle.schedule_play.specs.declared.style.Style.TheVariants.{Queries}
+use Rattle.schedule_play.proofs.Loops.{length-parts}
+use Rattle.schedule_play.proofs.Outcomes.{leads_both, leads_plays, leads_stops, nothing_plays, stops_more, stops_plays}
 use Rattle.schedule_play.proofs.play.ask.Goals as goal
+
+-- the steps that append, and those that ask
+abbrev appended : ℕ → List Step
+appended n = flat_map (λ (row : ℕ). append_steps) (range_with_len 0 n)
+
+abbrev asked : ℕ → List Step
+asked n = flat_map ask_steps (range_with_len 0 n)
 
 pub returns-in_err-progress-clause-plays : goal.returns-in_err-progress-clause-plays
 returns-in_err-progress-clause-plays g c =
     let p = err_from_is_err_and c.from_residual.result c.from_residual.ensures.1 in
     rw (p.1, p.2)
     (nothing_plays g.W.Wire.told g.W.Wire.alterations g.W.Wire.passes c.args.setting.now.widths (asking (seen c.args.setting.now)) _ _ g.met.W.Wire.none_passes refl)
+
+pub returns-in_err-append_rows-clause-plays : goal.returns-in_err-append_rows-clause-plays
+returns-in_err-append_rows-clause-plays g c =
+    let p = err_from_is_err_and c.from_residual-in_err-append_rows.result c.from_residual-in_err-append_rows.ensures.1 in
+    let s = seen c.args.setting.now in
+    rw (p.1, p.2)
+    (stops_plays g.W.Wire.told g.W.Wire.alterations g.W.Wire.passes c.args.setting.now.widths (asking s) c.args.wires.now.items
+    c.append_rows.new.wires.items c.in_ok-progress.progress.done (stage_of c.in_ok-progress.progress) _ c.in_ok-progress.ensures.done c.in_ok-progress.ensures.stage
+    (stops_more g.W.Wire.told g.W.Wire.alterations g.W.Wire.passes c.args.setting.now.widths s Queries c.in_ok-progress.progress.done (stage_of c.in_ok-progress.progress)
+    c.args.wires.now.items c.append_rows.new.wires.items (appended (length s.rows)) (asked (length s.queries)) _ c.in_err-append_rows.ensures.stops))
+
+pub returns-in_err-ask_queries-clause-plays : goal.returns-in_err-ask_queries-clause-plays
+returns-in_err-ask_queries-clause-plays g c =
+    let p = err_from_is_err_and c.from_residual-in_err-ask_queries.result c.from_residual-in_err-ask_queries.ensures.1 in
+    let s = seen c.args.setting.now in
+    let w = c.args.setting.now.widths in
+    let count : c.append_rows.new.progress.done ≡ c.in_ok-progress.progress.done + length (appended (length s.rows)) =
+    omega (arith, c.in_ok-append_rows.ensures.done, c.in_ok-progress.ensures.done, length-parts (λ (row : ℕ). append_steps) 4 0 (length s.rows) (λ i. refl)) in
+    rw (p.1, p.2)
+    (stops_plays g.W.Wire.told g.W.Wire.alterations g.W.Wire.passes w (asking s) c.args.wires.now.items
+    c.ask_queries.new.wires.items c.in_ok-progress.progress.done (stage_of c.in_ok-progress.progress) _ c.in_ok-progress.ensures.done c.in_ok-progress.ensures.stage
+    (leads_stops g.W.Wire.told g.W.Wire.alterations g.W.Wire.passes w s Queries g.met.W.Wire.both_pass c.in_ok-progress.progress.done (stage_of c.in_ok-progress.progress)
+    (stage_of c.append_rows.new.progress) c.args.wires.now.items c.append_rows.new.wires.items c.ask_queries.new.wires.items (appended (length s.rows)) (asked (length s.queries)) _
+    c.in_ok-append_rows.ensures.leads
+    (subst (λ (t : ℕ). Stops g.W.Wire.told g.W.Wire.alterations g.W.Wire.passes w s Queries t (stage_of c.append_rows.new.progress) c.append_rows.new.wires.items
+    (asked (length s.queries)) c.ask_queries.new.wires.items c.in_err-ask_queries.field-0.0) count c.in_err-ask_queries.ensures.stops)))
+
+pub returns-clause-plays : goal.returns-clause-plays
+returns-clause-plays g c =
+    let s = seen c.args.setting.now in
+    let w = c.args.setting.now.widths in
+    leads_plays g.W.Wire.told g.W.Wire.alterations g.W.Wire.passes w (asking s) c.args.wires.now.items
+    c.ask_queries.new.wires.items (stage_of c.in_ok-progress.progress) (stage_of c.ask_queries.new.progress) c.into_played.result c.in_ok-progress.ensures.stage
+    (leads_both g.W.Wire.told g.W.Wire.alterations g.W.Wire.passes w s Queries g.met.W.Wire.both_pass (stage_of c.in_ok-progress.progress) (stage_of c.append_rows.new.progress)
+    (stage_of c.ask_queries.new.progress) c.args.wires.now.items c.append_rows.new.wires.items c.ask_queries.new.wires.items (appended (length s.rows)) (asked (length s.queries))
+    c.in_ok-append_rows.ensures.leads c.in_ok-ask_queries.ensures.leads)
+    c.into_played.ensures.report c.into_played.ensures.altered

@@ -1,8 +1,7 @@
-use Rattle.std.proofs.Common.{rules, ◌≡◌, ◌+◌, ◌*◌, ◌<◌, ◌≤◌, refl, length, List, arith}
+use Rattle.std.proofs.Common.{refl, length, arith}
 use Rattle.std.specs.List.{flat_map, range_with_len}
 use Rattle.std.proofs.lemmas.Result.{err_from_is_err_and}
 use Rattle.schedule_play.specs.Plays.{seen}
-use Rattle.schedule_play.specs.Ready.{stage_of}
 use Rattle.schedule_play.specs.Tasks.{ask_steps}
 use Rattle.schedule_play.specs.declared.style.Style.TheVariants.{Queries}
 use Rattle.schedule_play.proofs.Keeping.{kept_first, kept_more, kept_stops}

@@ -1,4 +1,3 @@
-use Rattle.std.proofs.Common.{ℕ}
 use Rattle.std.specs.List.{flat_map, range_with_len}
 use Rattle.schedule_play.specs.Plays.{seen}
 use Rattle.schedule_play.specs.Tasks.{ask_steps}

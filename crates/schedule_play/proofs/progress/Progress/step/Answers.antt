@@ -1,4 +1,4 @@
-use Rattle.std.proofs.Common.{rules, ℕ, ◌≡◌, ◌∙◌, refl, sym, ap, subst, ◌+◌, ◌<◌, ◌≤◌, [], ◌∷◌, length, Some, None, Err, arith}
+use Rattle.std.proofs.Common.{rules, ℕ, ◌∙◌, refl, sym, ap, subst, Err, arith}
 use Rattle.std.proofs.lemmas.Result.{err_from_is_err_and}
 use Rattle.table_schema.specs.declared.widths.Widths.{Widths}
 use Rattle.waldo_core.specs.Answers.{Begins, Carries}
@@ -6,7 +6,6 @@ use Rattle.waldo_core.specs.Machines.{IsHeld}
 use Rattle.waldo_core.specs.Step.{Suited, step as step_at}
 use Rattle.waldo_core.specs.declared.events.StepFault.{StepFault}
 use Rattle.schedule_play.specs.Plays.{seen}
-use Rattle.schedule_play.specs.Stages.{actor_in}
 use Rattle.schedule_play.specs.Ready.{stage_of}
 use Rattle.schedule_play.proofs.Cases.{event_held, event_quiet, event_suited}
 use Rattle.schedule_play.proofs.Readying.{ready_after}

@@ -1,10 +1,8 @@
-use Rattle.std.proofs.Common.{rules, ◌≡◌, ◌+◌, ◌<◌, [], ◌∷◌, ◌++◌, length, take, drop, get_or, List, arith}
+use Rattle.std.proofs.Common.{◌+◌, [], ◌∷◌, take, drop, get_or}
 use Rattle.std.proofs.lemmas.Result.{err_from_is_err_and}
 use Rattle.std.proofs.lemmas.List.{take_more}
 use Rattle.waldo_words.specs.declared.schedule.Step.TheVariants.{Draw}
-use Rattle.schedule_play.specs.Leads.{Leads, Stops}
 use Rattle.schedule_play.specs.Plays.{seen}
-use Rattle.schedule_play.specs.Ready.{IsReady, stage_of}
 use Rattle.schedule_play.proofs.Keeping.{kept_first, kept_more, kept_stops}
 use Rattle.schedule_play.proofs.Loops.{steps_all}
 use Rattle.schedule_play.proofs.progress.Progress.steps.Goals as goal

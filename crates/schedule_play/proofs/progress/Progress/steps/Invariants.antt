@@ -1,7 +1,5 @@
-use Rattle.std.proofs.Common.{◌≡◌, ◌+◌, length, take, vec_items}
-use Rattle.schedule_play.specs.Leads.{Leads}
+use Rattle.std.proofs.Common.{take}
 use Rattle.schedule_play.specs.Plays.{seen}
-use Rattle.schedule_play.specs.Ready.{IsReady, stage_of}
 use Rattle.schedule_play.proofs.Kept.{Kept}
 use Rattle.schedule_play.proofs.progress.Progress.steps.Given as goal
 
