@@ -101,11 +101,16 @@ module _ {W : Type 0} (told : W → Option (List Message)) (alterations : W → 
           (sym (played_all w task.setting task.style (pair_at leads.history) task.steps leads.history 0 first_stage end leads.advances (same_pairs leads.history)))
           (report, altered),
         );
+        accepted = λ still. altered ∙ leads.calm still;
       }
 
   pub stops_plays : (t : ℕ) (stage : Stage) (fault : PlayFault) → t ≡ 0 → stage ≡ first_stage → Stops told alterations passes w task.setting task.style t stage vs task.steps ws fault
       → Plays w task (λ history. WiresWent told alterations passes history 0 vs ws) (IsStill alterations vs ws) (Err fault)
-  stops_plays fault stops = record { history = stops.history; sent = stops.sent; plain = stops.plain; ended = ended_at w task stops.history fault stops.ends; accepted = λ still. tt }
+  stops_plays t stage fault none first found =
+      let stops : Stops told alterations passes w task.setting task.style 0 first_stage vs task.steps ws fault =
+      subst (λ (n : ℕ). Stops told alterations passes w task.setting task.style n first_stage vs task.steps ws fault) none
+      (subst (λ (a : Stage). Stops told alterations passes w task.setting task.style t a vs task.steps ws fault) first found) in
+      record { history = stops.history; sent = stops.sent; plain = stops.plain; ended = ended_at w task stops.history fault stops.ends; accepted = λ still. tt }
 
   -- there was no memory to begin with
   pub nothing_plays : NonePasses passes → ws ≡ vs → Plays w task (λ history. WiresWent told alterations passes history 0 vs ws) (IsStill alterations vs ws) (Err Memory)

@@ -1,5 +1,5 @@
 -- One step at a machine.
-use Rattle.std.proofs.Common.{◌≡◌, ◌∙◌, refl, sym, ap, subst, ℕ, ◌<◌, ◌≤◌, inl, inr, false, List, [], ◌∷◌, length, get_or, set, Option, Some, None, option_map, IsSomeAnd, IfSome, arith, zero-add}
+use Rattle.std.proofs.Common.{◌≡◌, ◌∙◌, refl, sym, ap, subst, ℕ, ◌<◌, ◌≤◌, inl, inr, false, List, [], ◌∷◌, length, get_or, set, Option, Some, None, option_map, IsSomeAnd, IfSome, arith, zero-add, Bool, true}
 use Rattle.fault_count.specs.Causes.{Rose}
 use Rattle.server_rounds.specs.declared.opened.OpenedPair.{OpenedPair}
 use Rattle.table_schema.specs.declared.widths.Widths.{Widths}
