@@ -1,9 +1,7 @@
 -- The reply to what the steps of a command came to.
-use Rattle.std.proofs.Common.{◌≡◌, ◌≢◌, ◌∙◌, refl, sym, ap, subst, ℕ, Bool, true, false, cond, List, arith}
+use Rattle.std.proofs.Common.{◌≡◌, ◌≢◌, ◌∙◌, refl, sym, ap, ℕ, false, cond, List, arith}
 use Rattle.std.specs.Prelude.{Result, Ok, Err, IfOk, OnErr}
 use Rattle.ring128.specs.declared.memory.Memory.{Memory}
-use Rattle.report_lines.specs.declared.lines.Line.{Line}
-use Rattle.report_lines.specs.declared.lines.Line.TheVariants as lines
 use Rattle.table_schema.specs.declared.rows.Row.{Row}
 use Rattle.table_schema.specs.declared.widths.Widths.{Widths}
 use Rattle.schedule_play.specs.History.{Done, HasBroken, HasHistory, opened_in}
@@ -14,7 +12,7 @@ use Rattle.schedule_play.specs.declared.play.PlayFault.{PlayFault}
 use Rattle.schedule_play.specs.declared.play.PlayFault.TheVariants as faults
 use Rattle.schedule_play.specs.declared.play.Played.{Played}
 use Rattle.waldo_words.specs.declared.command.Command.{Command}
-use Rattle.waldo_run.specs.Replies.{IsReplyOf, Reply, checked_answer, ended, single}
+use Rattle.waldo_run.specs.Replies.{IsReplyOf, Reply, checked_answer, ended}
 use Rattle.waldo_run.specs.Run.{AskedOver, BegunOver}
 use Rattle.waldo_run.specs.Tasks.{AreWidthsIn, task_over}
 use Rattle.waldo_run.proofs.Begun.{all_begun}

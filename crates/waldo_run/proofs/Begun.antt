@@ -1,6 +1,6 @@
 -- What was carried and answered over the rows of a command, or over the first fault of its input.
 use Rattle.std.proofs.Common.{rules, ◌≡◌, ◌≢◌, ◌∙◌, refl, sym, ap, subst, ℕ, ◌⊎◌, inl, inr, true, false, Bool, List, [], ◌∷◌, arith}
-use Rattle.std.specs.Prelude.{⊤, IsSomeAnd, Option, Some, None, Result, Ok, Err, OnErr, IfOk, IsErr, MatchBool}
+use Rattle.std.specs.Prelude.{IsSomeAnd, Option, Some, None, Result, Ok, Err, OnErr, IfOk, IsErr, MatchBool}
 use Rattle.ring128.specs.declared.memory.Memory.{Memory}
 use Rattle.row_source.specs.Input.{Reading, Reads, most_bytes}
 use Rattle.row_source.specs.Input.Reading.{Untouched, Whole, Long, Broken}
@@ -9,7 +9,7 @@ use Rattle.row_source.specs.declared.faults.RowFault.TheVariants as row
 use Rattle.report_lines.specs.declared.lines.Line.TheVariants as lines
 use Rattle.table_schema.specs.declared.rows.Row.{Row}
 use Rattle.table_schema.specs.declared.widths.Widths.{Widths}
-use Rattle.schedule_play.specs.History.{Breaks as BreaksFrom, Done, HasBroken, HasHistory, IsHistory}
+use Rattle.schedule_play.specs.History.{Breaks as BreaksFrom, Done, IsHistory}
 use Rattle.schedule_play.specs.Stages.{Stage, next_stage}
 use Rattle.schedule_play.specs.Tasks.{Setting}
 use Rattle.schedule_play.specs.declared.style.Style.{Style}

@@ -1,22 +1,22 @@
 -- Where nothing was altered the reply is the plain one.
-use Rattle.std.proofs.Common.{◌≡◌, ◌∙◌, refl, sym, ap, subst, ℕ, Bool, true, false, cond, List, [], ◌∷◌, arith}
+use Rattle.std.proofs.Common.{◌≡◌, ◌∙◌, refl, ap, ℕ, List, [], ◌∷◌}
 use Rattle.std.specs.Prelude.{⊤, IfSome, Option, Some, None, Result, Ok, Err}
 use Rattle.row_source.specs.Input.{Reading}
 use Rattle.row_source.specs.Input.Reading.{Untouched, Whole, Long, Broken}
 use Rattle.row_source.specs.declared.faults.RowFault.{RowFault}
 use Rattle.report_lines.specs.declared.lines.Line.{Line}
 use Rattle.table_schema.specs.declared.rows.Row.{Row}
-use Rattle.schedule_play.specs.History.{Done, opened_in}
+use Rattle.schedule_play.specs.History.{Done}
 use Rattle.schedule_play.specs.Laws.{AskedPlainly, EndsPlainly, PlainlyPlayed}
 use Rattle.schedule_play.specs.Plain.{ArePlain, plain_lines, plainly}
 use Rattle.schedule_play.specs.Stages.{Stage, first_stage, next_stage, played}
-use Rattle.schedule_play.specs.Tasks.{IsSetting, Setting, Task, asking}
+use Rattle.schedule_play.specs.Tasks.{IsSetting, Setting, asking}
 use Rattle.schedule_play.specs.declared.style.Style.{Style}
 use Rattle.waldo_words.specs.declared.command.Command.{Command}
 use Rattle.waldo_words.specs.declared.command.Command.TheVariants as commands
 use Rattle.waldo_words.specs.declared.faults.WordFault.{WordFault}
-use Rattle.waldo_run.specs.Replies.{Reply, checked_answer, ended, plain_answer, reply_over, reply_to}
-use Rattle.waldo_run.specs.Run.{Asked, AskedIn, AskedOver}
+use Rattle.waldo_run.specs.Replies.{checked_answer, ended, plain_answer, reply_over, reply_to}
+use Rattle.waldo_run.specs.Run.{Asked, AskedIn}
 use Rattle.waldo_run.specs.Tasks.{common_in, rows_in, rows_made, setting_of, task_over}
 
 -- what holds of all wires holds without a condition

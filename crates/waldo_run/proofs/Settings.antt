@@ -1,15 +1,13 @@
 -- The setting of a command is legal.
-use Rattle.std.proofs.Common.{◌≡◌, ◌∙◌, refl, sym, ap, subst, ℕ, ◌*◌, ◌<◌, ◌≤◌, List, All, length, map, max, arith}
-use Rattle.std.specs.Prelude.{Result, Ok, Err}
+use Rattle.std.proofs.Common.{sym, subst, ℕ, ◌*◌, ◌≤◌, List, All, length, map, max, arith}
 use Rattle.std.proofs.lemmas.Nat.{mul-le}
-use Rattle.query_plan.specs.Query.{AreWidthsOf, Suits}
-use Rattle.query_plan.specs.declared.query.Query.{Query}
-use Rattle.table_schema.specs.Widths.{Fits, Holds, cells_of, code_length, column_bits}
+use Rattle.query_plan.specs.Query.{AreWidthsOf}
+use Rattle.table_schema.specs.Widths.{Fits, Holds, code_length}
 use Rattle.table_schema.specs.declared.rows.Row.{Row}
 use Rattle.table_schema.specs.declared.schema.Column.{Column}
 use Rattle.table_schema.specs.declared.widths.Widths.{Widths}
-use Rattle.schedule_play.specs.Tasks.{IsSetting, Setting, room_of}
-use Rattle.waldo_words.specs.Legal.{IsCommon, IsLegal, SuitsColumns}
+use Rattle.schedule_play.specs.Tasks.{IsSetting}
+use Rattle.waldo_words.specs.Legal.{IsCommon, IsLegal}
 use Rattle.waldo_words.specs.declared.command.Common.{Common}
 use Rattle.waldo_words.specs.declared.command.Command.{Command}
 use Rattle.waldo_words.specs.declared.command.Command.TheVariants as commands

@@ -1,6 +1,6 @@
 -- What a run says of each status.
-use Rattle.std.proofs.Common.{rules, ◌≡◌, ◌≢◌, ◌⊎◌, inl, inr, ℕ, zero, suc, ◌<◌, ◌≤◌, Bool, true, false, cond, List, length, refl, sym, ◌∙◌, ap, subst, arith}
-use Rattle.std.specs.Prelude.{MatchBool, ⊤, Option, None, Some, Result, Ok, Err, IfSome, IsErr}
+use Rattle.std.proofs.Common.{rules, ◌≡◌, ◌≢◌, ◌⊎◌, inl, inr, ℕ, zero, suc, Bool, true, false, cond, List, refl, sym, ◌∙◌, subst, arith}
+use Rattle.std.specs.Prelude.{⊤, Option, None, Some, Result, Ok, Err, IfSome, IsErr}
 use Rattle.fault_count.specs.Causes.{Rose}
 use Rattle.row_source.specs.Input.{Reading, Reads, most_bytes}
 use Rattle.row_source.specs.Input.Reading.{Untouched, Whole, Long, Broken}
@@ -17,8 +17,8 @@ use Rattle.waldo_words.specs.declared.command.Command.TheVariants as commands
 use Rattle.waldo_words.specs.declared.faults.WordFault.{WordFault}
 use Rattle.waldo_words.specs.declared.faults.WordFault.TheVariants as faults
 use Rattle.waldo_run.specs.Replies.{Answering, IsRefused, Reply, Suits, after_failed_put, checked_answer, ended, plain_answer, reply_over, reply_to}
-use Rattle.waldo_run.specs.Run.{Asked, AskedIn, Change, HasSchedule, IsUnchanged, Puts, ReadsNothing, Refuses, RefusesInput, Runs, plain_reply}
-use Rattle.waldo_run.specs.Tasks.{common_in, reads_input, rows_in, rows_made, setting_of, task_over}
+use Rattle.waldo_run.specs.Run.{Asked, AskedIn, Change, HasSchedule, Puts, Refuses, RefusesInput, Runs, plain_reply}
+use Rattle.waldo_run.specs.Tasks.{common_in, rows_in, rows_made, setting_of, task_over}
 use Rattle.waldo_run.proofs.Plain.{plain_reply_to}
 use Rattle.waldo_run.proofs.Told.{long_told, over_told, whole_told}
 

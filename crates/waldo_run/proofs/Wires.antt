@@ -1,5 +1,5 @@
 -- The wires of a run.
-use Rattle.std.proofs.Common.{◌≡◌, refl, sym, ◌⊎◌, inl, inr, ℕ, zero, suc, ◌+◌, ◌-◌, ◌^◌, ◌<◌, ◌≤◌, min, nat_le, Bool, true, false, List, [], ◌∷◌, arith}
+use Rattle.std.proofs.Common.{◌≡◌, refl, ◌⊎◌, inl, inr, ℕ, zero, suc, ◌+◌, ◌-◌, ◌^◌, min, nat_le, Bool, true, false, List, [], ◌∷◌, arith}
 use Rattle.fault_count.specs.Causes.{Rose}
 use Rattle.std.specs.Prelude.{Option}
 use Rattle.wire_line.specs.Carried.{went_none}

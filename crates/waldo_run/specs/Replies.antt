@@ -1,5 +1,5 @@
 -- The reply to each command and each way in which the input was met.
-use Rattle.std.specs.Prelude.{◌≡◌, ◌≢◌, ℕ, zero, suc, Bool, true, false, if◌then◌else◌, MatchBool, Result, Ok, Err, List, [], ◌∷◌}
+use Rattle.std.specs.Prelude.{◌≡◌, ◌≢◌, ℕ, zero, suc, if◌then◌else◌, MatchBool, Result, Ok, Err, List, [], ◌∷◌}
 use Rattle.row_source.specs.Input.{Reading}
 use Rattle.row_source.specs.Input.Reading.{Untouched, Whole, Long, Broken}
 use Rattle.row_source.specs.declared.faults.RowFault.{RowFault}
@@ -10,7 +10,7 @@ use Rattle.table_schema.specs.declared.rows.Row.{Row}
 use Rattle.schedule_play.specs.History.{Done, opened_in}
 use Rattle.schedule_play.specs.Plain.{plain_lines, plainly}
 use Rattle.schedule_play.specs.Stages.{Stage, played}
-use Rattle.schedule_play.specs.Tasks.{Setting, Task}
+use Rattle.schedule_play.specs.Tasks.{Task}
 use Rattle.schedule_play.specs.declared.play.PlayFault.{PlayFault}
 use Rattle.schedule_play.specs.declared.play.PlayFault.TheVariants.{NotAllowed, Memory}
 use Rattle.schedule_play.specs.declared.play.Played.{Played}

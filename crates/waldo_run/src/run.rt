@@ -137,7 +137,9 @@ fn answer<R: Threads + Sync, S: Source, W: Wire>(
     ensures unread { ReadsNothing (Ok command.now) → IsUnchanged (change S.left S.fault_count source.old source.new) }
 {
     match command {
-        Command::Make { number, rows, .. } => answer_made(rt, alloc, command, *number, *rows, wires),
+        Command::Make { number, rows, .. } => answer_made(
+            rt, alloc, command, *number, *rows, wires,
+        ),
         _ => answer_input(rt, alloc, command, source, wires),
     }
 }

@@ -67,7 +67,13 @@ fn play<R: Threads + Sync, W: Wire>(
         Command::Ask(common) => ask(rt, alloc, &setting(common, widths, rows), wires),
         Command::Make { common, .. } => ask(rt, alloc, &setting(common, widths, rows), wires),
         Command::Replay { common, schedule } => {
-            replay(rt, alloc, &setting(common, widths, rows), schedule.as_slice(), wires)
+            replay(
+                rt,
+                alloc,
+                &setting(common, widths, rows),
+                schedule.as_slice(),
+                wires,
+            )
         }
         Command::Race { .. } | Command::Trace(_) | Command::Tamper { .. } => unreachable!(),
     }
@@ -93,8 +99,8 @@ pub(crate) fn answer_rows<R: Threads + Sync, W: Wire>(
     ensures asked { (history : List Done) × WiresWent W.told W.alterations W.passes history 0 wires.old.items wires.new.items
         × OnErr result (BegunOver command.now history rows.now)
         × IfOk result (λ reply. AskedOver (λ actor. ¬ RoseAt W.alterations actor wires.old.items wires.new.items) command.now history rows.now
-            × (reply ≡ checked_answer history (task_over command.now rows.now))
-            × (((actor : ℕ) → ¬ RoseAt W.alterations actor wires.old.items wires.new.items) → reply.status ≢ 7)) }
+        × (reply ≡ checked_answer history (task_over command.now rows.now))
+        × (((actor : ℕ) → ¬ RoseAt W.alterations actor wires.old.items wires.new.items) → reply.status ≢ 7)) }
 {
     let played = play(rt, alloc, command, widths, rows, wires);
     reply_of(alloc, played)

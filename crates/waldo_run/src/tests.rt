@@ -20,12 +20,13 @@ type Case = (&'static str, &'static str, u8, &'static str);
 const AGAIN: &str =
     "replay|host:2|--query|count host=3|--schedule|d0 p0.0 p0.1 d1 p1.0 p1.1 p1.2 f1 f1 f1";
 
-const AGAIN_TEXT: &str =
-    "draw 0 place 0\ndraw 1 place 1\nask 1.0 again server 2 had 0 floor 2\n";
+const AGAIN_TEXT: &str = "draw 0 place 0\ndraw 1 place 1\nask 1.0 again server 2 had 0 floor 2\n";
 
-const ANSWERED: &str = "replay|host:2|--query|count host=3|--schedule|d0 p0.0 p0.1 d1 p1.0 p1.1 p1.2 f1 f1 f1 p0.2 f1 f1 f1 a1.0";
+const ANSWERED: &str =
+    "replay|host:2|--query|count host=3|--schedule|d0 p0.0 p0.1 d1 p1.0 p1.1 p1.2 f1 f1 f1 p0.2 f1 f1 f1 a1.0";
 
-const ANSWERED_TEXT: &str = "draw 0 place 0\ndraw 1 place 1\nask 1.0 again server 2 had 0 floor 2\nask 1.1 rows 2 count 1\n";
+const ANSWERED_TEXT: &str =
+    "draw 0 place 0\ndraw 1 place 1\nask 1.0 again server 2 had 0 floor 2\nask 1.1 rows 2 count 1\n";
 
 const CASES: [Case; 49] = [
     (COUNT, INPUT, 0, "ask 0 rows 3 count 2\n"),

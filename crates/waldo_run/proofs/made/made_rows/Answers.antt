@@ -1,4 +1,4 @@
-use Rattle.std.proofs.Common.{◌≡◌, ◌∙◌, ap, subst, sym, ℕ, zero, suc, ◌<◌, List, [], ◌∷◌, ◌++◌, All, length, get_or, arith, rules}
+use Rattle.std.proofs.Common.{◌∙◌, ap, subst, sym, zero, suc, List, [], ◌∷◌, ◌++◌, All, arith}
 use Rattle.std.proofs.lemmas.List.Elements.{All-append}
 use Rattle.list_facts.proofs.Listed.{listed_more}
 use Rattle.table_schema.specs.Widths.{Holds, column_bits}

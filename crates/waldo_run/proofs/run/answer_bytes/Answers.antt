@@ -1,5 +1,5 @@
-use Rattle.std.proofs.Common.{rules, refl, sym, ap, ◌∙◌, ◌≡◌, List, [], inl, inr}
-use Rattle.std.specs.Prelude.{Result, Ok, Err}
+use Rattle.std.proofs.Common.{rules, ◌≡◌, inl, inr}
+use Rattle.std.specs.Prelude.{Ok}
 use Rattle.waldo_run.specs.Tasks.{common_in, rows_in}
 use Rattle.waldo_run.proofs.Begun.{fault_answers, rows_answers}
 use Rattle.waldo_run.proofs.Wires.{still_wires}

@@ -1,7 +1,5 @@
-use Rattle.std.proofs.Common.{rules, refl, ◌≡◌, List, []}
 use Rattle.std.proofs.lemmas.Result.{IfOk-weaker}
 use Rattle.std.specs.Prelude.{Ok}
-use Rattle.waldo_run.specs.Run.{change}
 use Rattle.waldo_run.proofs.Begun.{broken_replies, long_replies, nothing_breaks, on_err, whole_breaks, whole_replies}
 use Rattle.waldo_run.proofs.Wires.{still_wires}
 use Rattle.waldo_run.proofs.run.answer_input.Goals as goal

@@ -1,9 +1,8 @@
-use Rattle.std.proofs.Common.{rules, refl, sym, ap, subst, ◌∙◌, ◌≡◌, ◌≤◌, ℕ, List, [], length, arith}
-use Rattle.std.specs.Prelude.{Ok, Err}
+use Rattle.std.proofs.Common.{rules, sym, ap, subst, ◌∙◌, ◌≡◌, ℕ, List, length, arith}
+use Rattle.std.specs.Prelude.{Ok}
 use Rattle.list_facts.proofs.Listed.{length-listed}
 use Rattle.table_schema.specs.Widths.{column_bits}
 use Rattle.waldo_words.specs.Legal.{IsLegal}
-use Rattle.waldo_words.specs.declared.command.Command.{Command}
 use Rattle.waldo_words.specs.declared.command.Command.TheVariants as commands
 use Rattle.waldo_run.specs.Made.{made_row, made_rows}
 use Rattle.waldo_run.specs.Tasks.{bits_of, common_in, rows_made}

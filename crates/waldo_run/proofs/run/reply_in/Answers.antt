@@ -1,4 +1,4 @@
-use Rattle.std.proofs.Common.{rules, refl, ◌≡◌, List, []}
+use Rattle.std.proofs.Common.{rules}
 use Rattle.std.proofs.lemmas.Result.{IfOk-weaker}
 use Rattle.waldo_run.proofs.Begun.{nothing_breaks, on_err, refused_replies, refused_words}
 use Rattle.waldo_run.proofs.Wires.{still_wires}

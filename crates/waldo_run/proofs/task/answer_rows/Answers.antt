@@ -1,4 +1,3 @@
-use Rattle.std.proofs.Common.{rules, ◌≡◌}
 use Rattle.waldo_run.proofs.Answering.{answered, begun}
 use Rattle.waldo_run.proofs.Settings.{task_legal}
 use Rattle.waldo_run.proofs.task.answer_rows.Goals as goal
@@ -9,8 +8,7 @@ play-played-requires-clause-setting g c κs within = task_legal c.args.command.n
 pub returns-clause-asked : goal.returns-clause-asked
 returns-clause-asked g c =
     let p = c.play-played.ensures.plays in
-    let legal = task_legal c.args.command.now c.args.widths.now c.args.rows.now c.requires.legal c.requires.widths c.requires.held c.requires.few in
-    (
+    let legal = task_legal c.args.command.now c.args.widths.now c.args.rows.now c.requires.legal c.requires.widths c.requires.held c.requires.few in (
       p.history,
       p.sent,
       begun c.args.command.now c.args.widths.now c.args.rows.now p.history _ c.requires.widths p.ended c.reply_of.result,

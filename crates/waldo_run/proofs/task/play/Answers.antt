@@ -1,4 +1,3 @@
-use Rattle.std.proofs.Common.{rules, ◌≡◌}
 use Rattle.waldo_run.proofs.Played.{ask_plays, make_plays, replay_plays}
 use Rattle.waldo_run.proofs.task.play.Goals as goal
 
