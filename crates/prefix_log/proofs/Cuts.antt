@@ -1,139 +1,171 @@
--- The first rows of columns, and parts of them.
-use Rattle.std.proofs.Common.{◌≡◌, ◌∙◌, refl, sym, ap, subst, ℕ, ◌+◌, ◌-◌, ◌*◌, ◌<◌, ◌≤◌, min, List, length, map, take, drop, arith}
-use Rattle.std.proofs.lemmas.List.{drop-take, take-take, length-take, length-drop, length-map, get_or-map, take_all}
-use Rattle.std.proofs.lemmas.Nat.{mul-le}
-use Rattle.scan_chunks.specs.Columns.{column_at}
+-- The first rows of chunks, and parts of them.
+use Rattle.std.proofs.Common.{◌≡◌, ◌∙◌, refl, sym, ap, subst, ℕ, ◌+◌, ◌-◌, ◌*◌, ◌/◌, ◌%◌, ◌^◌, ◌<◌, ◌≤◌, min, Bool, true, false, cond, eqb, List, [], length, get_or, take, drop, arith}
+use Rattle.std.specs.List.{flat_map, range_with_len}
+use Rattle.std.proofs.lemmas.List.{length-take, length-drop, get_or-take, get_or-drop}
+use Rattle.std.proofs.Math.Pow.{pow_mono}
+use Rattle.list_facts.proofs.Listed.{length-listed}
+use Rattle.table_schema.specs.declared.widths.Widths.{Widths}
+use Rattle.onehot_column.specs.Code.{width_of}
+use Rattle.onehot_column.proofs.CodeLaws.{width_last}
 use Rattle.scan_chunks.specs.Pieces.{chunk_of, chunks_of}
 use Rattle.scan_chunks.specs.Shelf.{Held, IsShelf}
-use Rattle.scan_chunks.specs.declared.column.Column.{Column}
 use Rattle.scan_chunks.proofs.Chunks.{chunk_by_rows, rows_in}
-use Rattle.prefix_log.specs.Rows.{IsCut, IsPart, cells_between, first_rows, rows_before, rows_between}
+use Rattle.prefix_log.specs.Chunks.{Halves, HasRows, HaveRows, chunk_at, first_rows, halves_at, part_at, rows_at}
+use Rattle.prefix_log.specs.RowLists.{row_cells}
+use Rattle.prefix_log.specs.Rows.{IsCut, IsPart, cells_between}
+use Rattle.prefix_log.proofs.Ranges.{rows_count, rows_dropped, rows_same, rows_taken, rows_there}
 
--- the first cells have the same cells within them
-within : (i n m : ℕ) (xs : List ℕ) → i + n ≤ m → take n (drop i (take m xs)) ≡ take n (drop i xs)
-within i n m xs h =
-    let e : m ≡ i + (m - i) = omega arith in
-    ap (λ (k : ℕ). take n (drop i (take k xs))) e ∙ ap (take n) (drop-take i (m - i) xs) ∙ take-take n (m - i) (drop i xs) (omega arith)
+-- how wide a row is at a column
+pub wide : (w : Widths) (column : ℕ) → 0 < width_of w column
+wide w column = by (eqb column w.columns)
+  where
+    by : (b : Bool) → 0 < cond b 1 (2 ^ get_or w.bits column 0)
+    by true = omega arith
+    by false = let some : 0 ≤ get_or w.bits column 0 = omega arith in let p : 2 ^ 0 ≤ 2 ^ get_or w.bits column 0 = pow_mono some in omega (arith, p)
 
-pub long_enough : (n : ℕ) (xs : List ℕ) → length (take n xs) ≡ n → n ≤ length xs
-long_enough n xs e = omega (arith, length-take n xs)
+-- ---- the rows at a column
 
-pub chunk_of_first : (w c rows : ℕ) (xs : List ℕ) → rows * w ≤ length xs → c < chunks_of rows → take (rows_in rows c * w) (drop (64 * c * w) xs) ≡ chunk_of w c (take (rows * w) xs)
-chunk_of_first w c rows xs long lt =
-    let fits : (64 * c + rows_in rows c) * w ≤ rows * w = mul-le (64 * c + rows_in rows c) w rows w (omega arith) (omega arith) in
-    sym (within (64 * c * w) (rows_in rows c * w) (rows * w) xs (omega arith)) ∙ chunk_by_rows w c rows (take (rows * w) xs) (omega (arith, length-take (rows * w) xs)) lt
+module _ (half : Halves → List ℕ) (w : Widths) (chunks : List (List Halves)) (column : ℕ) where
+  row_wide : (i : ℕ) → length (part_at half w chunks i column) ≡ width_of w column
+  row_wide i = length-listed (width_of w column) _
+
+  pub rows_long : (rows : ℕ) → length (rows_at half w chunks rows column) ≡ rows * width_of w column
+  unfolding rows_at
+  rows_long rows = rows_count (λ (i : ℕ). part_at half w chunks i column) (width_of w column) row_wide 0 rows
+
+  pub rows_cut : (n rows : ℕ) → n ≤ rows → rows_at half w chunks n column ≡ take (n * width_of w column) (rows_at half w chunks rows column)
+  unfolding rows_at
+  rows_cut n rows le = sym (rows_taken (λ (i : ℕ). part_at half w chunks i column) (width_of w column) row_wide 0 n rows le)
+
+  -- the rows from one to below another
+  pub rows_between : (a b rows : ℕ) → a ≤ b → b ≤ rows → flat_map (λ (i : ℕ). part_at half w chunks i column) (range_with_len a (b - a)) ≡ cells_between (width_of w column) a b (rows_at half w chunks rows column)
+  unfolding rows_at
+  rows_between a b rows le le' =
+      let start : 0 + a ≡ a = omega arith in
+      sym (ap (take ((b - a) * width_of w column)) (rows_dropped (λ (i : ℕ). part_at half w chunks i column) (width_of w column) row_wide 0 a rows (omega arith))
+      ∙ rows_taken (λ (i : ℕ). part_at half w chunks i column) (width_of w column) row_wide (0 + a) (b - a) (rows - a) (omega arith)
+      ∙ ap (λ (i : ℕ). flat_map (λ (j : ℕ). part_at half w chunks j column) (range_with_len i (b - a))) start)
+
+  -- a chunk that has its rows lends them
+  pub chunk_lent : (c rows : ℕ) → c < chunks_of rows → rows_in rows c * width_of w column ≤ length (half (halves_at (chunk_at chunks c) column))
+      → take (rows_in rows c * width_of w column) (half (halves_at (chunk_at chunks c) column)) ≡ chunk_of (width_of w column) c (rows_at half w chunks rows column)
+  chunk_lent c rows lt long =
+      let count : 64 * c + rows_in rows c - 64 * c ≡ rows_in rows c = omega arith in
+      sym (rows_there (width_of w column) (rows_in rows c) (half (halves_at (chunk_at chunks c) column)) long)
+      ∙ rows_same (row_cells (width_of w column) (half (halves_at (chunk_at chunks c) column))) (λ (i : ℕ). part_at half w chunks i column) 0 (64 * c) (rows_in rows c)
+      (λ i less.
+      let quotient : c ≡ (64 * c + i) / 64 = omega arith in
+      let rest : 0 + i ≡ (64 * c + i) % 64 = omega arith in
+      ap (row_cells (width_of w column) (half (halves_at (chunk_at chunks c) column))) rest
+      ∙ ap (λ (j : ℕ). row_cells (width_of w column) (half (halves_at (chunk_at chunks j) column)) ((64 * c + i) % 64)) quotient)
+      ∙ ap (λ (n : ℕ). flat_map (λ (i : ℕ). part_at half w chunks i column) (range_with_len (64 * c) n)) (sym count)
+      ∙ rows_between (64 * c) (64 * c + rows_in rows c) rows (omega arith) (omega arith)
+      ∙ ap (λ (n : ℕ). take (n * width_of w column) (drop (64 * c * width_of w column) (rows_at half w chunks rows column))) count
+      ∙ chunk_by_rows (width_of w column) c rows (rows_at half w chunks rows column) (rows_long rows) lt
+
+-- ---- shelves
+
+pub is_shelf : (w : Widths) (rows start : ℕ) (chunks : List (List Halves)) → start + chunks_of rows ≤ 1024 → IsShelf (first_rows w rows start chunks)
+is_shelf w rows start chunks few = record {
+  few = few;
+  first = λ column le. rows_long (λ h. h.first) w chunks column rows;
+  second = λ column le. rows_long (λ h. h.second) w chunks column rows;
+  wide = λ column le. wide w column;
+  value = width_last w;
+}
 
 -- ---- a cut
 
-pub cut_is : (n rows start : ℕ) (columns : List Column) → n ≤ rows → IsCut n (first_rows rows start columns) (first_rows n start columns)
-cut_is n rows start columns le = record {
+pub cut_is : (w : Widths) (n rows start : ℕ) (chunks : List (List Halves)) → n ≤ rows → IsCut n (first_rows w rows start chunks) (first_rows w n start chunks)
+cut_is w n rows start chunks le = record {
   rows = refl;
   start = refl;
   columns = refl;
   width = λ column h. refl;
-  first = λ column h. let w = (column_at columns column).width in sym (take-take (n * w) (rows * w) (column_at columns column).first (mul-le n w rows w le (omega arith)));
-  second = λ column h. let w = (column_at columns column).width in sym (take-take (n * w) (rows * w) (column_at columns column).second (mul-le n w rows w le (omega arith)));
+  first = λ column h. rows_cut (λ h. h.first) w chunks column n rows le;
+  second = λ column h. rows_cut (λ h. h.second) w chunks column n rows le;
 }
 
-pub cut_shelf : (n rows start : ℕ) (columns : List Column) → n ≤ rows → IsShelf (first_rows rows start columns) → IsShelf (first_rows n start columns)
-cut_shelf n rows start columns le h = record {
-  few = omega (arith, h.few);
-  first = λ column ok. let w = (column_at columns column).width in let all = long_enough (rows * w) (column_at columns column).first (h.first column ok) in
-      let less : n * w ≤ rows * w = mul-le n w rows w le (omega arith) in omega (arith, length-take (n * w) (column_at columns column).first);
-  second = λ column ok. let w = (column_at columns column).width in let all = long_enough (rows * w) (column_at columns column).second (h.second column ok) in
-      let less : n * w ≤ rows * w = mul-le n w rows w le (omega arith) in omega (arith, length-take (n * w) (column_at columns column).second);
-  wide = h.wide;
-  value = h.value;
-}
+pub cut_is_at : (w w' : Widths) (n n' rows start start' : ℕ) (chunks chunks' : List (List Halves)) → n ≤ rows → w' ≡ w → n' ≡ n → start' ≡ start → chunks' ≡ chunks
+    → IsCut n (first_rows w rows start chunks) (first_rows w' n' start' chunks')
+cut_is_at w w' n n' rows start start' chunks chunks' le a b c d = rw (a, b, c, d) (cut_is w n rows start chunks le)
+
+pub cut_rows : (w : Widths) (n rows : ℕ) (chunks : List (List Halves)) → n ≤ rows → HaveRows w rows chunks → HaveRows w n chunks
+cut_rows w n rows chunks le have = record { count = (let c = have.count in omega arith); each = λ row lt. have.each row (omega arith) }
+
+-- ---- one of the chunks
+
+-- the last row of a chunk is there, so all of them are
+pub chunk_rows : (w : Widths) (rows c : ℕ) (chunks : List (List Halves)) → HaveRows w rows chunks → c < chunks_of rows → HasRows w (rows_in rows c) (chunk_at chunks c)
+chunk_rows w rows c chunks have lt =
+    let n : (64 * c + rows_in rows c - 1) % 64 + 1 ≡ rows_in rows c = omega arith in
+    let j : (64 * c + rows_in rows c - 1) / 64 ≡ c = omega arith in
+    subst (λ (i : ℕ). HasRows w (rows_in rows c) (chunk_at chunks i)) j
+    (subst (λ (m : ℕ). HasRows w m (chunk_at chunks ((64 * c + rows_in rows c - 1) / 64))) n (have.each (64 * c + rows_in rows c - 1) (omega arith)))
+
+pub lent_rows : (w : Widths) (rows c : ℕ) (chunks : List (List Halves)) (chunk : List Halves) → HaveRows w rows chunks → c < chunks_of rows → chunk_at chunks c ≡ chunk → HasRows w (min 64 (rows - 64 * c)) chunk
+lent_rows w rows c chunks chunk have lt at = subst (HasRows w (min 64 (rows - 64 * c))) at (chunk_rows w rows c chunks have lt)
+
+-- and they are lent
+pub lent_is : (half : Halves → List ℕ) (w : Widths) (column rows c : ℕ) (chunks : List (List Halves)) (chunk : List Halves) (cells : Halves) (n width : ℕ) (lent : List ℕ) → c < chunks_of rows → chunk_at chunks c ≡ chunk
+    → cells ≡ halves_at chunk column → n ≡ min 64 (rows - 64 * c) → width ≡ width_of w column → lent ≡ take (n * width) (half cells) → min 64 (rows - 64 * c) * width_of w column ≤ length (half (halves_at chunk column))
+    → lent ≡ chunk_of (width_of w column) c (rows_at half w chunks rows column)
+lent_is half w column rows c chunks chunk cells n width lent lt at column_is count wide_is is long =
+    is ∙ ap (λ (m : ℕ). take (m * width) (half cells)) count ∙ ap (λ (m : ℕ). take (min 64 (rows - 64 * c) * m) (half cells)) wide_is
+    ∙ ap (λ (h : Halves). take (min 64 (rows - 64 * c) * width_of w column) (half h)) (column_is ∙ ap (λ (l : List Halves). halves_at l column) (sym at))
+    ∙ chunk_lent half w chunks column c rows lt (subst (λ (l : List Halves). min 64 (rows - 64 * c) * width_of w column ≤ length (half (halves_at l column))) (sym at) long)
 
 -- ---- a part
 
-module _ (low high rows start : ℕ) (columns : List Column) (some : 0 < length columns) (shelf : IsShelf (first_rows rows start columns)) (order : low ≤ high) (there : high ≤ chunks_of rows) where
-  f : ℕ
-  f = min rows (64 * low)
+module _ (w : Widths) (low high rows start : ℕ) (chunks : List (List Halves)) (have : HaveRows w rows chunks) (order : low ≤ high) (there : high ≤ chunks_of rows) where
+  -- the chunks of a part
+  part_chunk : (j : ℕ) → j < high - low → chunk_at (take (high - low) (drop low chunks)) j ≡ chunk_at chunks (low + j)
+  part_chunk j lt = get_or-take (high - low) (drop low chunks) j [] lt ∙ get_or-drop low chunks j []
 
-  at : (column : ℕ) → column ≤ length columns - 1 → column_at (map (rows_between (min rows (64 * low)) (min rows (64 * high))) columns) column ≡ rows_between (min rows (64 * low)) (min rows (64 * high)) (column_at columns column)
-  at column ok = get_or-map (rows_between (min rows (64 * low)) (min rows (64 * high))) columns column _ _ (omega arith)
+  part_count : length (take (high - low) (drop low chunks)) ≡ high - low
+  part_count = (let c = have.count in omega (arith, length-take (high - low) (drop low chunks), length-drop low chunks))
 
-  size : length (map (rows_between (min rows (64 * low)) (min rows (64 * high))) columns) ≡ length columns
-  size = length-map columns (rows_between (min rows (64 * low)) (min rows (64 * high)))
+  part_row : (half : Halves → List ℕ) (column i : ℕ) → i < min rows (64 * high) - min rows (64 * low)
+      → part_at half w (take (high - low) (drop low chunks)) (0 + i) column ≡ part_at half w chunks (min rows (64 * low) + i) column
+  part_row half column i lt =
+      let j : (0 + i) / 64 < high - low = omega arith in
+      let quotient : low + (0 + i) / 64 ≡ (min rows (64 * low) + i) / 64 = omega arith in
+      let rest : (0 + i) % 64 ≡ (min rows (64 * low) + i) % 64 = omega arith in
+      ap (λ (chunk : List Halves). row_cells (width_of w column) (half (halves_at chunk column)) ((0 + i) % 64)) (part_chunk ((0 + i) / 64) j ∙ ap (chunk_at chunks) quotient)
+      ∙ ap (row_cells (width_of w column) (half (halves_at (chunk_at chunks ((min rows (64 * low) + i) / 64)) column))) rest
 
-  between : (w : ℕ) (xs : List ℕ) → take ((min rows (64 * high) - min rows (64 * low)) * w) (cells_between w (min rows (64 * low)) (min rows (64 * high)) xs)
-      ≡ cells_between w (min rows (64 * low)) (min rows (64 * high)) (take (rows * w) xs)
-  between w xs =
-      let n = (min rows (64 * high) - min rows (64 * low)) * w in
-      let i = min rows (64 * low) * w in
-      let fits : (min rows (64 * low) + (min rows (64 * high) - min rows (64 * low))) * w ≤ rows * w =
-      mul-le (min rows (64 * low) + (min rows (64 * high) - min rows (64 * low))) w rows w (omega arith) (omega arith) in
-      take-take n n (drop i xs) (omega arith) ∙ sym (within i n (rows * w) xs (omega arith))
+  part_cells : (half : Halves → List ℕ) (column : ℕ) → rows_at half w (take (high - low) (drop low chunks)) (min rows (64 * high) - min rows (64 * low)) column
+      ≡ cells_between (width_of w column) (min rows (64 * low)) (min rows (64 * high)) (rows_at half w chunks rows column)
+  unfolding rows_at
+  part_cells half column =
+      rows_same (λ (i : ℕ). part_at half w (take (high - low) (drop low chunks)) i column) (λ (i : ℕ). part_at half w chunks i column) 0 (min rows (64 * low)) (min rows (64 * high) - min rows (64 * low)) (part_row half column)
+      ∙ rows_between half w chunks column (min rows (64 * low)) (min rows (64 * high)) rows (omega arith) (omega arith)
 
-  long : (w : ℕ) (xs : List ℕ) → length (take (rows * w) xs) ≡ rows * w → length (cells_between w (min rows (64 * low)) (min rows (64 * high)) (take (rows * w) xs)) ≡ (min rows (64 * high) - min rows (64 * low)) * w
-  long w xs e =
-      let n = (min rows (64 * high) - min rows (64 * low)) * w in
-      let i = min rows (64 * low) * w in
-      let fits : (min rows (64 * low) + (min rows (64 * high) - min rows (64 * low))) * w ≤ rows * w =
-      mul-le (min rows (64 * low) + (min rows (64 * high) - min rows (64 * low))) w rows w (omega arith) (omega arith) in
-      omega (arith, length-take n (drop i (take (rows * w) xs)), length-drop i (take (rows * w) xs))
-
-  pub part_is : IsPart low high (first_rows rows start columns) (first_rows (min rows (64 * high) - min rows (64 * low)) (start + low) (map (rows_between (min rows (64 * low)) (min rows (64 * high))) columns))
+  pub part_is : IsPart low high (first_rows w rows start chunks) (first_rows w (min rows (64 * high) - min rows (64 * low)) (start + low) (take (high - low) (drop low chunks)))
   part_is = record {
     rows = refl;
     start = refl;
-    columns = omega (arith, size);
-    width = λ column ok. ap (λ (c : Column). c.width) (at column ok);
-    first = λ column ok. let w = (column_at columns column).width in
-        ap (λ (c : Column). take ((min rows (64 * high) - min rows (64 * low)) * c.width) c.first) (at column ok) ∙ between w (column_at columns column).first;
-    second = λ column ok. let w = (column_at columns column).width in
-        ap (λ (c : Column). take ((min rows (64 * high) - min rows (64 * low)) * c.width) c.second) (at column ok) ∙ between w (column_at columns column).second;
+    columns = refl;
+    width = λ column ok. refl;
+    first = λ column ok. part_cells (λ h. h.first) column;
+    second = λ column ok. part_cells (λ h. h.second) column;
   }
 
-  pub part_shelf : IsShelf (first_rows (min rows (64 * high) - min rows (64 * low)) (start + low) (map (rows_between (min rows (64 * low)) (min rows (64 * high))) columns))
-  part_shelf =
-      let p = part_is in
-      record {
-        few = omega (arith, shelf.few);
-        first = λ column le. let ok : column ≤ length columns - 1 = omega (arith, size) in let w = (column_at columns column).width in
-            ap length (p.first column ok) ∙ long w (column_at columns column).first (shelf.first column ok)
-            ∙ ap (λ (m : ℕ). (min rows (64 * high) - min rows (64 * low)) * m) (sym (p.width column ok));
-        second = λ column le. let ok : column ≤ length columns - 1 = omega (arith, size) in let w = (column_at columns column).width in
-            ap length (p.second column ok) ∙ long w (column_at columns column).second (shelf.second column ok)
-            ∙ ap (λ (m : ℕ). (min rows (64 * high) - min rows (64 * low)) * m) (sym (p.width column ok));
-        wide = λ column le. let ok : column ≤ length columns - 1 = omega (arith, size) in rw (p.width column ok) (shelf.wide column ok);
-        value = ap (first_rows (min rows (64 * high) - min rows (64 * low)) (start + low) (map (rows_between (min rows (64 * low)) (min rows (64 * high))) columns)).width p.columns
-            ∙ p.width (length columns - 1) (omega arith) ∙ shelf.value;
-      }
+  pub part_rows : HaveRows w (min rows (64 * high) - min rows (64 * low)) (take (high - low) (drop low chunks))
+  part_rows = record {
+    count = omega (arith, part_count);
+    each = λ row lt.
+        let j : row / 64 < high - low = omega arith in
+        let quotient : (min rows (64 * low) + row) / 64 ≡ low + row / 64 = omega arith in
+        let rest : (min rows (64 * low) + row) % 64 ≡ row % 64 = omega arith in
+        subst (HasRows w (row % 64 + 1)) (ap (chunk_at chunks) quotient ∙ sym (part_chunk (row / 64) j))
+        (subst (λ (n : ℕ). HasRows w (n + 1) (chunk_at chunks ((min rows (64 * low) + row) / 64))) rest (have.each (min rows (64 * low) + row) (omega arith)));
+  }
 
-module _ (low high rows start : ℕ) (columns : List Column) (some : 0 < length columns) (shelf : IsShelf (first_rows rows start columns)) (order : low ≤ high) (there : high ≤ chunks_of rows) (a b : ℕ) (new : List Column)
-    (first : a ≡ min rows (64 * low)) (end : b ≡ min rows (64 * high)) (copied : new ≡ map (rows_between a b) columns) where
-  pub part_shelf_at : IsShelf (first_rows (b - a) (start + low) new)
-  part_shelf_at = rw (copied, first, end) (part_shelf low high rows start columns some shelf order there)
+module _ (w : Widths) (low high rows start : ℕ) (chunks : List (List Halves)) (have : HaveRows w rows chunks) (order : low ≤ high) (there : high ≤ chunks_of rows) (a b : ℕ) (new : List (List Halves))
+    (first : a ≡ min rows (64 * low)) (end : b ≡ min rows (64 * high)) (shared : new ≡ take (high - low) (drop low chunks)) where
+  pub part_rows_at : HaveRows w (b - a) new
+  part_rows_at = rw (shared, first, end) (part_rows w low high rows start chunks have order there)
 
-  pub part_is_at : (h : Held) → h ≡ first_rows (b - a) (start + low) new → IsPart low high (first_rows rows start columns) h
-  part_is_at h is = rw (is, copied, first, end) (part_is low high rows start columns some shelf order there)
-
--- ---- one of the columns
-
-pub rows_there_first : (high rows start i : ℕ) (columns : List Column) (c : Column) → IsShelf (first_rows rows start columns) → high ≤ rows → i < length columns → column_at columns i ≡ c → high * c.width ≤ length c.first
-rows_there_first high rows start i columns c shelf le lt e =
-    let d = column_at columns i in
-    let all = long_enough (rows * d.width) d.first (shelf.first i (omega arith)) in
-    let less : high * d.width ≤ rows * d.width = mul-le high d.width rows d.width le (omega arith) in
-    subst (λ (x : Column). high * x.width ≤ length x.first) e (omega (arith, all, less))
-
-pub rows_there_second : (high rows start i : ℕ) (columns : List Column) (c : Column) → IsShelf (first_rows rows start columns) → high ≤ rows → i < length columns → column_at columns i ≡ c → high * c.width ≤ length c.second
-rows_there_second high rows start i columns c shelf le lt e =
-    let d = column_at columns i in
-    let all = long_enough (rows * d.width) d.second (shelf.second i (omega arith)) in
-    let less : high * d.width ≤ rows * d.width = mul-le high d.width rows d.width le (omega arith) in
-    subst (λ (x : Column). high * x.width ≤ length x.second) e (omega (arith, all, less))
-
--- a copied part of a column, by its first and its last cell
-pub cells_are : (w low high : ℕ) (cells source copied : List ℕ) → low ≤ high → source ≡ cells → copied ≡ take (high * w - low * w) (drop (low * w) source) → copied ≡ cells_between w low high cells
-cells_are w low high cells source copied le same e =
-    let s : high ≡ low + (high - low) = omega arith in
-    let m : high * w ≡ low * w + (high - low) * w = ap (λ (k : ℕ). k * w) s ∙ omega arith in
-    let n : high * w - low * w ≡ (high - low) * w = omega arith in
-    e ∙ ap (λ (k : ℕ). take k (drop (low * w) source)) n ∙ ap (cells_between w low high) same
-
-pub column_same : (w : ℕ) {a b x y : List ℕ} → a ≡ x → b ≡ y → ◌≡◌ {A = Column} (record { width = w; first = a; second = b }) (record { width = w; first = x; second = y })
-column_same w {a} {b} {x} {y} e f = ap (λ (l : List ℕ). record { width = w; first = l; second = b }) e ∙ ap (λ (l : List ℕ). record { width = w; first = x; second = l }) f
+  pub part_is_at : (h : Held) → h ≡ first_rows w (b - a) (start + low) new → IsPart low high (first_rows w rows start chunks) h
+  part_is_at h is = rw (is, shared, first, end) (part_is w low high rows start chunks have order there)

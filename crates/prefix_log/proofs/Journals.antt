@@ -1,11 +1,10 @@
 -- Places in a journal, and its prefix.
-use Rattle.std.proofs.Common.{◌≡◌, ◌≢◌, ◌∙◌, refl, sym, ap, ℕ, zero, suc, ◌+◌, ◌<◌, ◌≤◌, ◌⊎◌, ⊎_elim, Bool, true, false, List, [], ◌∷◌, ◌++◌, length, get_or, take, arith}
+use Rattle.std.proofs.Common.{◌≡◌, ◌≢◌, ◌∙◌, refl, sym, ap, ℕ, zero, suc, ◌+◌, ◌<◌, ◌≤◌, ◌⊎◌, ⊎_elim, Bool, true, false, List, [], ◌∷◌, length, get_or, take, arith}
 use Rattle.std.proofs.lemmas.Bool.{cases_order}
 use Rattle.std.proofs.lemmas.Bool.Decides.{nat_tests}
 use Rattle.std.proofs.lemmas.List.{take_all, take_more}
 use Rattle.list_facts.specs.Count.{has, times}
 use Rattle.list_facts.proofs.Count.{has_from, has_from_none, has_yes, length_all, times-append}
-use Rattle.prefix_log.specs.Journal.{IsPrefixOf}
 use Rattle.prefix_log.specs.Laws.{PrefixIsOne}
 
 one_other : (x y : ℕ) → y ≢ x → times x (y ∷ []) ≡ 0

@@ -1,6 +1,5 @@
 -- Snapshots of rows.
-use Rattle.std.proofs.Common.{◌≡◌, ◌∙◌, refl, sym, ap, ℕ, zero, suc, ◌+◌, ◌*◌, ◌%◌, ◌≤◌, List, [], ◌∷◌, ◌++◌, length, take, arith}
-use Rattle.std.specs.List.{flat_map}
+use Rattle.std.proofs.Common.{◌≡◌, ◌∙◌, sym, ap, ℕ, zero, suc, ◌+◌, ◌*◌, ◌%◌, ◌≤◌, List, [], ◌∷◌, ◌++◌, length, take, arith}
 use Rattle.std.proofs.lemmas.List.{length-take-le, take_all}
 use Rattle.list_facts.proofs.Listed.{length-listed}
 use Rattle.prg_chacha.specs.declared.seed.Seed.{Seed}
@@ -11,7 +10,9 @@ use Rattle.onehot_column.specs.Code.{width_of, cells_at, code_of}
 use Rattle.onehot_column.proofs.CodeLaws.{length-code_of}
 use Rattle.prefix_log.specs.Laws.{CutKeepsRows, SnapshotsKeepRows}
 use Rattle.prefix_log.specs.Snapshots.{shares_of}
-use Rattle.prefix_log.proofs.Pieces.{cells_wide, sharings_give_cells}
+use Rattle.prefix_log.proofs.Columns.{cells_wide}
+use Rattle.prefix_log.proofs.Pieces.{sharings_give_cells}
+use Rattle.prefix_log.proofs.Ranges.{take_past}
 
 pub snapshots_keep_rows : SnapshotsKeepRows
 snapshots_keep_rows w k n entries slots h shares le holds =
@@ -35,18 +36,11 @@ share_long (suc (suc k)) s values = length-listed _ _
 row_wide : (w : Widths) (k column : ℕ) (entry : Row × Seed) → column ≤ w.columns → length (cells_at w column (share_of k entry.1 (code_of w entry.0))) ≡ width_of w column
 row_wide w k column entry ok = cells_wide w column (share_of k entry.1 (code_of w entry.0)) ok (share_long k entry.1 (code_of w entry.0) ∙ length-code_of w entry.0)
 
--- a list, and some of what follows it
-pub take_past : {A : Type 0} (xs ys : List A) (n m : ℕ) → n ≡ length xs + m → take n (xs ++ ys) ≡ xs ++ take m ys
-take_past [] ys n m e = let same : n ≡ m = omega arith in ap (λ (i : ℕ). take i ys) same
-take_past (x ∷ xs) ys zero m e = absurd (omega arith)
-take_past {A} (x ∷ xs) ys (suc n) m e = ap (λ (l : List A). x ∷ l) (take_past xs ys n m (omega arith))
-
 -- the cells of the first rows are the first cells
 first_shares : (w : Widths) (k column n : ℕ) (entries : List (Row × Seed)) → column ≤ w.columns → take (n * width_of w column) (shares_of w k entries column) ≡ shares_of w k (take n entries) column
 first_shares w k column zero entries ok = let none : 0 * width_of w column ≡ 0 = omega arith in ap (λ (i : ℕ). take i (shares_of w k entries column)) none
 first_shares w k column (suc n) [] ok = take_all (suc n * width_of w column) [] (omega arith)
 first_shares w k column (suc n) (e ∷ es) ok =
-    let cells = cells_at w column (share_of k e.1 (code_of w e.0)) in
     let wide = row_wide w k column e ok in
     let more : (n + 1) * width_of w column ≡ width_of w column + n * width_of w column = omega arith in
     take_past (cells_at w column (share_of k e.1 (code_of w e.0))) (shares_of w k es column) (suc n * width_of w column) (n * width_of w column) (omega (arith, wide, more))

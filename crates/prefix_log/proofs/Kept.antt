@@ -1,19 +1,18 @@
 -- Logs that are kept: a placing keeps them, and the running number is the prefix.
-use Rattle.std.proofs.Common.{◌≡◌, ◌≢◌, ◌∙◌, refl, sym, ap, subst, ℕ, zero, suc, ◌+◌, ◌<◌, ◌≤◌, ◌⊎◌, ⊎_elim, Bool, true, false, cond, List, [], ◌∷◌, ◌++◌, length, get_or, set, take, arith}
+use Rattle.std.proofs.Common.{◌≡◌, ◌≢◌, ◌∙◌, refl, sym, ap, subst, ℕ, zero, suc, ◌+◌, ◌<◌, ◌≤◌, ◌⊎◌, ⊎_elim, Bool, true, false, cond, List, [], ◌∷◌, ◌++◌, length, get_or, set, arith}
 use Rattle.std.specs.Prelude.{Option, Some, None, is_some}
 use Rattle.std.proofs.lemmas.Bool.{cases_order}
 use Rattle.std.proofs.lemmas.Bool.Decides.{nat_tests}
-use Rattle.std.proofs.lemmas.List.{get_or-set_same, get_or-set_other, get_or-take, get_or_past, length-append, length-take, length-set}
-use Rattle.list_facts.specs.Count.{has, times, once_below}
+use Rattle.std.proofs.lemmas.List.{get_or-set_same, get_or-set_other, get_or_past, length-append, length-set}
+use Rattle.list_facts.specs.Count.{times, once_below}
 use Rattle.list_facts.specs.Listed.{listed}
 use Rattle.list_facts.proofs.Count.{has_from, has_from_none, length_once, times-append}
 use Rattle.list_facts.proofs.Listed.{get_or-listed, length-listed}
 use Rattle.table_schema.specs.Widths.{Fits, column_bits}
 use Rattle.table_schema.specs.declared.widths.Widths.{Widths}
-use Rattle.onehot_column.specs.Piece.{HasWidths}
 use Rattle.onehot_column.specs.declared.piece.Piece.{Piece}
 use Rattle.prefix_log.specs.Journal.{IsPrefixOf}
-use Rattle.prefix_log.specs.Logs.{Log, IsKept, IsLog, IsOwn, AreFilled, empty_log, piece_at}
+use Rattle.prefix_log.specs.Logs.{Log, IsKept, IsOwn, empty_log, piece_at}
 
 pub any_default : {A : Type 0} (xs : List A) (i : ℕ) (d e : A) → i < length xs → get_or xs i d ≡ get_or xs i e
 any_default [] i d e h = absurd (omega arith)
@@ -157,16 +156,3 @@ placed_kept space prefix next place log new piece k lt free own is later gap =
           (λ (other : (x < prefix) ⊎ (prefix < x)). ⊎_elim (λ (less : x < prefix). filled_more log.slots place piece there x (k.below x less)) (λ (more : prefix < x). later x (omega arith) h) other) (cases_order x prefix);
       gap = gap;
     }
-
--- the slots below the prefix have pieces of the log's widths
-pub first_filled : (space prefix : ℕ) (log : Log) → IsKept space prefix log → AreFilled log.widths (take prefix log.slots)
-first_filled space prefix log k place lt =
-    let below : place < prefix = omega (arith, length-take prefix log.slots) in
-    let p = some_of (piece_at log.slots place) (k.below place below) in
-    (p.0, get_or-take prefix log.slots place None below ∙ p.1, (k.legal.own place p.0 p.1).widths)
-
-pub few_slots : (space prefix : ℕ) (log : Log) → IsKept space prefix log → length (take prefix log.slots) ≤ 65536
-few_slots space prefix log k = omega (arith, length-take prefix log.slots, k.legal.places, k.legal.fits.1)
-
-pub slots_taken : (space prefix : ℕ) (log : Log) → IsKept space prefix log → length (take prefix log.slots) ≡ prefix
-slots_taken space prefix log k = omega (arith, length-take prefix log.slots, prefix_within space prefix log k)

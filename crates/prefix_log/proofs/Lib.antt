@@ -1,8 +1,14 @@
+pub mod Columns
 pub mod Cuts
 pub mod Fixed
 pub mod Journals
 pub mod Keeping
 pub mod Kept
+pub mod Logged
 pub mod Parts
 pub mod Pieces
 pub mod Placings
+pub mod Ranges
+pub mod Sealed
+pub mod Stored
+pub mod Written

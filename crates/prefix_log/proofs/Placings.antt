@@ -1,5 +1,5 @@
 -- Logs after many placings.
-use Rattle.std.proofs.Common.{◌≡◌, ◌≢◌, ◌∙◌, refl, sym, ap, ℕ, zero, suc, ◌+◌, ◌<◌, ◌≤◌, Bool, true, false, cond, eqb, List, [], ◌∷◌, ◌++◌, All, length, set, get_or, arith, append_assoc, append-nil}
+use Rattle.std.proofs.Common.{◌≡◌, ◌≢◌, ◌∙◌, refl, sym, ap, ℕ, suc, ◌<◌, Bool, true, false, cond, eqb, List, [], ◌∷◌, ◌++◌, All, length, set, arith, append_assoc, append-nil}
 use Rattle.std.specs.Prelude.{Option, Some, None, is_some}
 use Rattle.std.proofs.lemmas.Bool.Decides.{nat_tests}
 use Rattle.std.proofs.lemmas.List.{length-set}
@@ -7,7 +7,6 @@ use Rattle.list_facts.specs.Count.{has, times}
 use Rattle.list_facts.specs.Listed.{listed}
 use Rattle.list_facts.proofs.Count.{has_from, has_from_none}
 use Rattle.list_facts.proofs.Listed.{length-listed}
-use Rattle.table_schema.specs.declared.widths.Widths.{Widths}
 use Rattle.onehot_column.specs.declared.piece.Piece.{Piece}
 use Rattle.prefix_log.specs.Laws.{FirstsStay}
 use Rattle.prefix_log.specs.Logs.{Log, empty_log, piece_at, placed}

@@ -1,11 +1,12 @@
 -- What contracts see of a server's log.
-use Rattle.std.specs.Prelude.{◌≡◌, ℕ, ◌<◌, ◌≤◌, true, false, if◌then◌else◌, Option, Some, None, is_some, List, [], ◌∷◌, ◌++◌, length, slice_index_or, slice_set}
+use Rattle.std.specs.Prelude.{◌≡◌, ℕ, ◌<◌, ◌≤◌, Bool, true, false, if◌then◌else◌, Option, Some, None, is_some, List, [], ◌∷◌, ◌++◌, length, slice_index_or, slice_set}
 use Rattle.list_facts.specs.Count.{times}
 use Rattle.list_facts.specs.Listed.{listed}
 use Rattle.table_schema.specs.Widths.{Fits, column_bits}
 use Rattle.table_schema.specs.declared.widths.Widths.{Widths}
 use Rattle.onehot_column.specs.Piece.{HasWidths}
 use Rattle.onehot_column.specs.declared.piece.Piece.{Piece}
+use Rattle.prefix_log.specs.Chunks.{Halves, stored_slots}
 
 -- whose it is, the widths of the pieces, how many places there are, the places in the order of placing, and at each place its piece
 pub record Log : Type 0 where
@@ -31,9 +32,9 @@ pub record IsLog (log : Log) : Type 0 where
   pub once : (place : ℕ) → times place log.journal ≡ (if is_some (piece_at log.slots place) then 1 else 0)
   pub own : (place : ℕ) (piece : Piece) → piece_at log.slots place ≡ Some piece → IsOwn log.server log.widths piece
 
--- each of some slots has a piece of these widths
-abbrev pub AreFilled : Widths → List (Option Piece) → Type 0
-AreFilled w slots = (place : ℕ) → place < length slots → (piece : Piece) × (piece_at slots place ≡ Some piece) × HasWidths w piece
+-- the log of cells in chunks, of which those at filled places count
+abbrev pub log_of : ℕ → Widths → ℕ → List ℕ → List Bool → List (List Halves) → Log
+log_of server w capacity journal filled chunks = record { server = server; widths = w; capacity = capacity; journal = journal; slots = stored_slots server w capacity filled chunks }
 
 -- a log without pieces
 abbrev pub empty_log : ℕ → Widths → ℕ → Log

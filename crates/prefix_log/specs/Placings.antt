@@ -1,9 +1,8 @@
 -- Logs after many placings.
-use Rattle.std.specs.Prelude.{◌≡◌, ℕ, ◌<◌, ◌==◌, if◌then◌else◌, Option, Some, None, List, [], ◌∷◌, ◌++◌, All}
+use Rattle.std.specs.Prelude.{ℕ, ◌==◌, if◌then◌else◌, Option, Some, None, List, [], ◌∷◌, ◌++◌}
 use Rattle.list_facts.specs.Count.{has}
-use Rattle.table_schema.specs.declared.widths.Widths.{Widths}
 use Rattle.onehot_column.specs.declared.piece.Piece.{Piece}
-use Rattle.prefix_log.specs.Logs.{Log, empty_log, piece_at, placed}
+use Rattle.prefix_log.specs.Logs.{Log, placed}
 
 -- the log after some pieces came to places, one after another
 abbrev pub placed_all : Log → List (ℕ × Piece) → Log

@@ -1,22 +1,7 @@
 -- Rows of a shelf: the first of them, and parts of them.
-use Rattle.std.specs.Prelude.{◌≡◌, ℕ, ◌+◌, ◌-◌, ◌*◌, ◌/◌, ◌<◌, ◌≤◌, List, length, take, drop, min}
-use Rattle.scan_chunks.specs.Columns.{column_at}
+use Rattle.std.specs.Prelude.{◌≡◌, ℕ, ◌+◌, ◌-◌, ◌*◌, ◌/◌, ◌≤◌, List, take, drop, min}
 use Rattle.scan_chunks.specs.Pieces.{chunks_of}
 use Rattle.scan_chunks.specs.Shelf.{Held}
-use Rattle.scan_chunks.specs.declared.column.Column.{Column}
-
--- the first rows of these columns, the last of which is the value's
-abbrev pub first_rows : ℕ → ℕ → List Column → Held
-first_rows rows start columns = record {
-  rows = rows;
-  start = start;
-  columns = length columns - 1;
-  width = λ (k : ℕ). (column_at columns k).width;
-  pieces = record {
-    first = λ (k : ℕ). take (rows * (column_at columns k).width) (column_at columns k).first;
-    second = λ (k : ℕ). take (rows * (column_at columns k).width) (column_at columns k).second;
-  };
-}
 
 -- a shelf keeps the first n rows
 pub record IsCut (n : ℕ) (old new : Held) : Type 0 where
@@ -34,10 +19,6 @@ rows_before rows chunk = min rows (64 * chunk)
 -- the cells of the rows from one to below another
 abbrev pub cells_between : ℕ → ℕ → ℕ → List ℕ → List ℕ
 cells_between width low high cells = take ((high - low) * width) (drop (low * width) cells)
-
--- the rows from one to below another
-abbrev pub rows_between : ℕ → ℕ → Column → Column
-rows_between low high c = record { width = c.width; first = cells_between c.width low high c.first; second = cells_between c.width low high c.second }
 
 -- a shelf holds the chunks from one to below another of a whole one, counted from 0
 pub record IsPart (low high : ℕ) (whole part : Held) : Type 0 where

@@ -1,5 +1,5 @@
 -- What a snapshot holds: the pieces of the first places.
-use Rattle.std.specs.Prelude.{◌≡◌, ℕ, ◌+◌, ◌%◌, ◌≤◌, Option, List, take, length}
+use Rattle.std.specs.Prelude.{◌≡◌, ℕ, ◌+◌, ◌%◌, ◌≤◌, Option, List, length}
 use Rattle.std.specs.List.{flat_map}
 use Rattle.std.specs.Option.{option_to_list}
 use Rattle.prg_chacha.specs.declared.seed.Seed.{Seed}
@@ -9,7 +9,6 @@ use Rattle.table_schema.specs.declared.widths.Widths.{Widths}
 use Rattle.onehot_column.specs.Code.{width_of, cells_at, code_of}
 use Rattle.onehot_column.specs.declared.piece.Piece.{Piece}
 use Rattle.scan_chunks.specs.Shelf.{Held}
-use Rattle.scan_chunks.specs.declared.column.Column.{Column}
 
 -- the pieces in some slots, in order
 abbrev pub pieces_in : List (Option Piece) → List Piece
@@ -22,10 +21,6 @@ firsts_of w pieces column = flat_map (λ (p : Piece). cells_at w column p.cells.
 -- and the next server's
 abbrev pub seconds_of : Widths → List Piece → ℕ → List ℕ
 seconds_of w pieces column = flat_map (λ (p : Piece). cells_at w column p.cells.second) pieces
-
--- a column of some pieces
-abbrev pub column_from : Widths → List Piece → ℕ → Column
-column_from w pieces column = record { width = width_of w column; first = firsts_of w pieces column; second = seconds_of w pieces column }
 
 -- a shelf holds these pieces, one a row, from the first chunk on
 pub record HoldsPieces (w : Widths) (pieces : List Piece) (h : Held) : Type 0 where

@@ -1,99 +1,98 @@
-//! The cells of pieces, column by column.
-ghost use Rattle.std.specs.Prelude.{◌≡◌, ℕ, ◌+◌, ◌<◌, ◌≤◌, Some, IfOk, OnOk, is_some, true, ◌++◌, length};
-ghost use Rattle.list_facts.specs.Listed.{listed};
-ghost use Rattle.onehot_column.specs.Code.{cells_at, width_of};
-ghost use Rattle.onehot_column.specs.Piece.{HasWidths};
-ghost use Rattle.prefix_log.specs.Logs.{AreFilled};
-ghost use Rattle.prefix_log.specs.Snapshots.{column_from, pieces_in};
+//! The cells of a column of a chunk.
+ghost use Rattle.std.specs.Prelude.{◌≡◌, ℕ, ◌+◌, ◌<◌, ◌≤◌, IfOk, length, vec_capacity, slice_index, take};
+ghost use Rattle.prefix_log.specs.Chunks.{HalvesWritten, IsWritten};
 
-use onehot_column::Piece;
-use ring128::{Memory, Words};
-use scan_chunks::Column;
+use ring128::Memory;
 use std::alloc::Global;
-use table_schema::Widths;
+use std::marker::Model;
 
-// The piece in a slot that has one.
-fn piece_in(slot: &Option<Piece>) -> &Piece
-    requires { is_some slot.now ≡ true }
-    ensures { slot.now ≡ Some result.now }
-{
-    match slot {
-        Some(piece) => piece,
-        None => unreachable!(),
+// The firsts and the seconds of the cells of some rows at a column, row after row, with room for more.
+#[derive(Drop)]
+pub(crate) struct Cells {
+    first: Vec<u128>,
+    second: Vec<u128>,
+}
+
+impl Model for Cells {
+    ghost use Rattle.std.specs.Prelude.{vec_capacity, min};
+    ghost use Rattle.prefix_log.specs.Chunks.{Halves};
+
+    ghost Value = { Halves };
+
+    ghost view = { λ s. record { first = s.first.items; second = s.second.items; room = min (vec_capacity s.first) (vec_capacity s.second) } };
+}
+
+impl Cells {
+    // No cells, with room for so many of each.
+    pub fn new(alloc: Global, room: usize) -> Result<Cells, Memory>
+        ensures { IfOk result (λ c. room ≤ c.room) }
+    {
+        Ok(Cells {
+            first: Vec::with_capacity(alloc, room)?,
+            second: Vec::with_capacity(alloc, room)?,
+        })
+    }
+
+    // Writes a row's cells at a place for which there is room. It takes no memory.
+    pub fn write(&mut self, start: usize, first: &[u128], second: &[u128])
+        requires first { start + length first.now ≤ self.old.room }
+        requires second { start + length second.now ≤ self.old.room }
+        ensures { HalvesWritten start first.now second.now self.old self.new }
+    {
+        write(&mut self.first, start, first);
+        write(&mut self.second, start, second);
+    }
+
+    // The first of the firsts.
+    pub fn firsts(&self, count: usize) -> &[u128]
+        requires { count ≤ length self.now.first }
+        ensures { result.now ≡ take count self.now.first }
+    {
+        &self.first.as_slice()[..count]
+    }
+
+    // The first of the seconds.
+    pub fn seconds(&self, count: usize) -> &[u128]
+        requires { count ≤ length self.now.second }
+        ensures { result.now ≡ take count self.now.second }
+    {
+        &self.second.as_slice()[..count]
+    }
+
+    // A copy of the first cells.
+    pub fn copy(&self, alloc: Global, count: usize) -> Result<Cells, Memory>
+        requires first { count ≤ length self.now.first }
+        requires second { count ≤ length self.now.second }
+        ensures first { IfOk result (λ c. c.first ≡ take count self.now.first) }
+        ensures second { IfOk result (λ c. c.second ≡ take count self.now.second) }
+    {
+        Ok(Cells {
+            first: Vec::from_slice(alloc, self.firsts(count))?,
+            second: Vec::from_slice(alloc, self.seconds(count))?,
+        })
     }
 }
 
-// The firsts and the seconds of a piece's cells at a column, or at the value's, which is the last one.
-fn part<'a>(piece: &'a Piece, widths: &Widths, c: u8) -> (&'a [u128], &'a [u128])
-    requires column { c ≤ widths.now.columns }
-    requires widths { HasWidths widths.now piece.now }
-    ensures first { result.0.now ≡ cells_at widths.now c piece.now.cells.first }
-    ensures second { result.1.now ≡ cells_at widths.now c piece.now.cells.second }
+// Writes a part over cells from a place on; what was not there yet is 0.
+fn write(cells: &mut Vec<u128>, start: usize, part: &[u128])
+    requires { start + length part.now ≤ vec_capacity cells.old }
+    ensures written { IsWritten start part.now cells.old.items cells.new.items }
+    ensures room { vec_capacity cells.old ≤ vec_capacity cells.new }
 {
-    if c < widths.columns {
-        return piece.column(widths, c);
-    }
-    let last = piece.cells.len() - 1;
-    (
-        &piece.cells.first.as_slice()[last..],
-        &piece.cells.second.as_slice()[last..],
-    )
+    let end = start + part.len();
+    reach(cells, end);
+    cells[start..end].copy_from_slice(part);
 }
 
-// How many cells a row has at a column.
-fn width(widths: &Widths, c: u8) -> u64
-    requires { c ≤ widths.now.columns }
-    ensures value { result ≡ width_of widths.now c }
-    ensures narrow { result ≤ 256 }
+// Fills up with zeros, within the room that there is.
+fn reach(cells: &mut Vec<u128>, end: usize)
+    requires { end ≤ vec_capacity cells.old }
+    ensures reach { end ≤ length cells.new.items }
+    ensures longer { length cells.old.items ≤ length cells.new.items }
+    ensures same { (i : ℕ) → slice_index cells.new.items i ≡ slice_index cells.old.items i }
+    ensures room { vec_capacity cells.old ≤ vec_capacity cells.new }
 {
-    if c < widths.columns {
-        1 << widths.bits[c as usize]
-    } else {
-        1
+    if cells.len() < end {
+        let _ = cells.resize(end, 0);
     }
-}
-
-// A column of the pieces in some slots, each of which has one.
-fn column_of(
-    alloc: Global,
-    widths: &Widths,
-    slots: &[Option<Piece>],
-    c: u8,
-) -> Result<Column, Memory>
-    requires column { c ≤ widths.now.columns }
-    requires few { length slots.now ≤ 65536 }
-    requires filled { AreFilled widths.now slots.now }
-    ensures { IfOk result (λ column. column ≡ column_from widths.now (pieces_in slots.now) c) }
-{
-    let width = width(widths, c);
-    let room = slots.len() * width as usize;
-    let mut firsts = Vec::with_capacity(alloc, room)?;
-    let mut seconds = Vec::with_capacity(alloc, room)?;
-    for slot in slots {
-        let (first, second) = part(piece_in(slot), widths, c);
-        firsts.extend_from_slice(first)?;
-        seconds.extend_from_slice(second)?;
-    }
-    Ok(Column {
-        width,
-        first: Words::from_vec(firsts),
-        second: Words::from_vec(seconds),
-    })
-}
-
-// The columns of the pieces in some slots, each of which has one; the value's is the last.
-pub(crate) fn columns_of(
-    alloc: Global,
-    widths: &Widths,
-    slots: &[Option<Piece>],
-) -> Result<Vec<Column>, Memory>
-    requires few { length slots.now ≤ 65536 }
-    requires filled { AreFilled widths.now slots.now }
-    ensures { IfOk result (λ columns. columns.items ≡ listed (widths.now.columns + 1) (column_from widths.now (pieces_in slots.now))) }
-{
-    let mut columns = Vec::with_capacity(alloc, widths.columns as usize + 1)?;
-    for c in 0..widths.columns + 1 {
-        columns.push(column_of(alloc, widths, slots, c)?)?;
-    }
-    Ok(columns)
 }

@@ -1,10 +1,7 @@
 //! The prefix of a journal.
-ghost use Rattle.std.specs.Prelude.{◌≡◌, ℕ, ◌<◌, ◌≤◌, true, false, is_some, length};
+ghost use Rattle.std.specs.Prelude.{◌≡◌, ℕ, ◌<◌, ◌≤◌, true, false, length, slice_index_or};
 ghost use Rattle.list_facts.specs.Count.{has};
 ghost use Rattle.prefix_log.specs.Journal.{IsPrefixOf};
-ghost use Rattle.prefix_log.specs.Logs.{piece_at};
-
-use onehot_column::Piece;
 
 /// The largest number such that each place below it is in the journal, found place by place. It reads the whole
 /// journal for each place: [`ServerLog::prefix`](crate::ServerLog::prefix) gives the same at once.
@@ -31,17 +28,17 @@ fn holds(journal: &[u64], place: u64) -> bool
     false
 }
 
-// The first place from one on that has no piece; past the last slot there is none.
-pub(crate) fn first_gap(slots: &[Option<Piece>], from: usize) -> usize
-    requires { from ≤ length slots.now }
+// The first place from one on that isn't filled; past the last one there is none.
+pub(crate) fn first_gap(filled: &[bool], from: usize) -> usize
+    requires { from ≤ length filled.now }
     ensures later { from ≤ result }
-    ensures below { (place : ℕ) → from ≤ place → place < result → is_some (piece_at slots.now place) ≡ true }
-    ensures gap { is_some (piece_at slots.now result) ≡ false }
+    ensures below { (place : ℕ) → from ≤ place → place < result → slice_index_or filled.now place false ≡ true }
+    ensures gap { slice_index_or filled.now result false ≡ false }
 {
-    for place in from..slots.len() {
-        if slots[place].is_none() {
+    for place in from..filled.len() {
+        if !filled[place] {
             return place;
         }
     }
-    slots.len()
+    filled.len()
 }

@@ -2,8 +2,11 @@
 //! of the pieces there.
 //!
 //! A place takes the first piece that comes to it and keeps it. The journal is the list of these places in the order in
-//! which they were filled, and its prefix is the largest number such that each place below it is filled. A snapshot
-//! copies the pieces of the places below the prefix, so what is placed later changes no snapshot.
+//! which they were filled, and its prefix is the largest number such that each place below it is filled. A snapshot has
+//! the pieces of the places below the prefix; what is placed later changes no snapshot.
+//!
+//! The cells are kept column by column in chunks of 64 places. A snapshot shares whole chunks with the log and copies the
+//! rest, so a table and all its snapshots take little more memory than its cells.
 //!
 //! ```text
 //! let mut log = ServerLog::new(alloc, 0, &widths, 4)?;
@@ -17,6 +20,9 @@
 #![tactic(auto)]
 
 mod cells;
+mod chunk;
+mod chunks;
+mod code;
 mod fault;
 mod journal;
 pub mod laws;

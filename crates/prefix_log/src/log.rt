@@ -1,12 +1,10 @@
-ghost use Rattle.std.specs.Prelude.{◌≡◌, ◌<◌, None, IfOk, [], length};
-ghost use Rattle.list_facts.specs.Listed.{listed};
+ghost use Rattle.std.specs.Prelude.{◌≡◌, ◌<◌, IfOk, [], take};
 ghost use Rattle.table_schema.specs.Widths.{Fits, column_bits};
 ghost use Rattle.prefix_log.specs.Journal.{IsPrefixOf};
 ghost use Rattle.prefix_log.specs.Logs.{IsLog, IsOwn, empty_log, placed};
 ghost use Rattle.prefix_log.specs.Snapshots.{HoldsPieces, pieces_in};
-ghost use Rattle.std.specs.Prelude.{take};
 
-use crate::cells::columns_of;
+use crate::chunks::Chunks;
 use crate::journal::first_gap;
 use crate::snapshot::Snapshot;
 use onehot_column::Piece;
@@ -26,24 +24,26 @@ pub struct ServerLog {
     widths: Widths,
     capacity: u32,
     journal: Vec<u64>,
-    slots: Vec<Option<Piece>>,
+    filled: Vec<bool>,
+    chunks: Chunks,
     prefix: u64,
 }
 
 impl Model for ServerLog {
     ghost use Rattle.std.specs.Prelude.{vec_capacity};
-    ghost use Rattle.prefix_log.specs.Logs.{Log, IsKept};
+    ghost use Rattle.prefix_log.specs.Chunks.{IsStored};
+    ghost use Rattle.prefix_log.specs.Logs.{Log, IsKept, log_of};
 
     ghost Value = { Log };
 
-    ghost view = { λ s. record { server = s.server; widths = s.widths; capacity = s.capacity; journal = s.journal.items; slots = s.slots.items } };
+    ghost view = { λ s. log_of s.server s.widths s.capacity s.journal.items s.filled.items s.chunks.chunks };
 
-    ghost invariant = { λ s. IsKept (vec_capacity s.journal) s.prefix (record { server = s.server; widths = s.widths; capacity = s.capacity; journal = s.journal.items; slots = s.slots.items }) };
+    ghost invariant = { λ s. IsKept (vec_capacity s.journal) s.prefix (log_of s.server s.widths s.capacity s.journal.items s.filled.items s.chunks.chunks) × IsStored s.widths s.capacity s.prefix s.filled.items s.chunks };
 }
 
 impl ServerLog {
-    /// A log without pieces. All memory that it will ever want for its journal and its slots is taken here. The only
-    /// error is want of it.
+    /// A log without pieces. All memory that it will ever want is taken here, 32 bytes for each cell of its places among it;
+    /// it is written as pieces come. The only error is want of it.
     pub fn new(
         alloc: Global,
         server: u8,
@@ -58,7 +58,8 @@ impl ServerLog {
             widths: *widths,
             capacity,
             journal: Vec::with_capacity(alloc, capacity as usize)?,
-            slots: free_slots(alloc, capacity)?,
+            filled: vec![in alloc; false; capacity as usize]?,
+            chunks: Chunks::new(alloc, widths, capacity)?,
             prefix: 0,
         })
     }
@@ -73,12 +74,13 @@ impl ServerLog {
         ensures widths { self.new.widths ≡ self.old.widths }
         ensures capacity { self.new.capacity ≡ self.old.capacity }
     {
-        if self.slots[place as usize].is_some() {
+        if self.filled[place as usize] {
             return;
         }
-        self.slots[place as usize] = Some(piece);
+        self.chunks.write(&self.widths, place, &piece);
+        self.filled[place as usize] = true;
         self.journal.push_reserved(place);
-        self.prefix = first_gap(self.slots.as_slice(), self.prefix as usize) as u64;
+        self.prefix = first_gap(self.filled.as_slice(), self.prefix as usize) as u64;
     }
 
     /// How many of the first places have a piece: the largest number such that each place below it is in the journal.
@@ -90,26 +92,17 @@ impl ServerLog {
     }
 
     /// A snapshot of the pieces at the places below the prefix, a row each, without visits yet. Its first chunk has the
-    /// number 0. The only error is want of memory; in every case the log stays.
+    /// number 0. It shares the whole chunks with the log and copies the rest, fewer than 64 rows. The only error is want of
+    /// memory; in every case the log stays.
     pub fn fix(&mut self, alloc: Global) -> Result<Snapshot, Memory>
         ensures stays { self.new ≡ self.old }
         ensures rows { IfOk result (λ s. IsPrefixOf self.old.journal (⟦<Snapshot as Shelf>⟧.held s).rows) }
         ensures pieces { IfOk result (λ s. let h = ⟦<Snapshot as Shelf>⟧.held s in HoldsPieces self.old.widths (pieces_in (take h.rows self.old.slots)) h) }
         ensures visits { IfOk result (λ s. ⟦<Snapshot as Shelf>⟧.visited s ≡ []) }
     {
-        let placed = &self.slots.as_slice()[..self.prefix as usize];
-        let columns = columns_of(alloc, &self.widths, placed)?;
-        Ok(Snapshot::new(alloc, self.prefix, 0, columns))
+        let rows = self.prefix;
+        self.chunks.seal(alloc, rows / 64)?;
+        let chunks = self.chunks.first(alloc, &self.widths, rows)?;
+        Ok(Snapshot::new(alloc, self.widths, rows, 0, chunks))
     }
-}
-
-// So many free slots.
-fn free_slots(alloc: Global, capacity: u32) -> Result<Vec<Option<Piece>>, Memory>
-    ensures { IfOk result (λ slots. slots.items ≡ listed capacity (λ _. None)) }
-{
-    let mut slots = Vec::with_capacity(alloc, capacity as usize)?;
-    for _ in 0..capacity {
-        slots.push_reserved(None);
-    }
-    Ok(slots)
 }

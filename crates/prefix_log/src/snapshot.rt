@@ -1,16 +1,21 @@
-ghost use Rattle.std.specs.Prelude.{◌≡◌, ℕ, ◌<◌, ◌≤◌, [], IfOk, All, length, map};
+ghost use Rattle.std.specs.Prelude.{◌≡◌, ℕ, ◌+◌, ◌<◌, ◌≤◌, [], IfOk, All, length, map};
 ghost use Rattle.scan_chunks.specs.Shelf.{Held, IsShelf};
 ghost use Rattle.scan_chunks.specs.Laws.{AreParts, GoOn};
 ghost use Rattle.scan_chunks.specs.Pieces.{chunks_of};
-ghost use Rattle.prefix_log.specs.Rows.{first_rows, IsCut, IsPart, IsEven};
+ghost use Rattle.std.specs.Arc.{arc_value};
+ghost use Rattle.prefix_log.specs.Chunks.{HaveRows, first_rows};
+ghost use Rattle.prefix_log.specs.Rows.{IsCut, IsPart, IsEven};
 
+use crate::chunk::Chunk;
 use crate::rows::Rows;
 use ring128::Memory;
-use scan_chunks::{Column, Lent, Shelf, Visit};
+use scan_chunks::{Lent, Shelf, Visit};
 use std::alloc::Global;
+use std::sync::Arc;
+use table_schema::Widths;
 
-/// The pieces of the first places of a server's log, a row each. It owns its cells, so nothing that is placed later
-/// changes it.
+/// The pieces of the first places of a server's log, a row each. It shares whole chunks of 64 rows with the log and with
+/// other snapshots, and owns the rest. Nothing that is placed later changes it.
 #[derive(Drop)]
 pub struct Snapshot {
     rows: Rows,
@@ -18,18 +23,25 @@ pub struct Snapshot {
 }
 
 impl Snapshot {
-    // The first rows of some columns, the last of which is the value's. It takes no memory.
-    pub(crate) fn new(alloc: Global, count: u64, start: u32, columns: Vec<Column>) -> Snapshot
-        requires some { 0 < length columns.items }
-        requires shelf { IsShelf (first_rows count start columns.items) }
-        ensures held { ⟦<Snapshot as Shelf>⟧.held result ≡ first_rows count start columns.items }
+    // The first rows of some chunks. It takes no memory.
+    pub(crate) fn new(
+        alloc: Global,
+        widths: Widths,
+        count: u64,
+        start: u32,
+        chunks: Vec<Arc<Chunk>>,
+    ) -> Snapshot
+        requires few { start + chunks_of count ≤ 1024 }
+        requires there { HaveRows widths count (map arc_value chunks.items) }
+        ensures held { ⟦<Snapshot as Shelf>⟧.held result ≡ first_rows widths count start (map arc_value chunks.items) }
         ensures visits { ⟦<Snapshot as Shelf>⟧.visited result ≡ [] }
     {
         Snapshot {
             rows: Rows {
                 count,
                 start,
-                columns,
+                widths,
+                chunks,
             },
             visits: Vec::new(alloc),
         }
@@ -78,14 +90,14 @@ impl Snapshot {
     {
         let rows = self.rows.count();
         let (first, end) = (rows.min(64 * low), rows.min(64 * high));
-        let columns = self.rows.between(alloc, first, end)?;
+        let chunks = self.rows.between(alloc, low, high)?;
         let start = self.rows.start + low as u32;
-        Ok(Snapshot::new(alloc, end - first, start, columns))
+        Ok(Snapshot::new(alloc, self.rows.widths, end - first, start, chunks))
     }
 }
 
 impl Shelf for Snapshot {
-    ghost held = { λ s. first_rows s.rows.count s.rows.start s.rows.columns.items };
+    ghost held = { λ s. first_rows s.rows.widths s.rows.count s.rows.start (map arc_value s.rows.chunks.items) };
 
     ghost visited = { λ s. s.visits.items };
 

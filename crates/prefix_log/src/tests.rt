@@ -37,22 +37,33 @@ fn log<R: Abort>(rt: &R, alloc: Global, widths: &Widths, capacity: u32) -> Resul
     ServerLog::new(alloc, 0, widths, capacity)
 }
 
-// Puts a piece at each of the first places.
+// Puts a piece at each place from one to below another.
 fn fill<R: Abort>(
     rt: &R,
     alloc: Global,
     widths: &Widths,
     log: &mut ServerLog,
-    count: u32,
+    from: u32,
+    to: u32,
 ) -> Result<(), Memory>
     requires server { log.old.server ≡ 0 }
     requires widths { log.old.widths ≡ widths.now }
-    requires room { count ≤ log.old.capacity }
+    requires room { to ≤ log.old.capacity }
+    ensures server { log.new.server ≡ 0 }
+    ensures widths { log.new.widths ≡ widths.now }
+    ensures capacity { log.new.capacity ≡ log.old.capacity }
 {
-    for n in 0..count {
+    for n in from..to {
         log.place(u64::from(n), piece(rt, alloc, widths, n)?);
     }
     Ok(())
+}
+
+// What may go to another thread.
+fn sent<S: Send>(shared: S) -> S
+    ensures { result ≡ shared }
+{
+    shared
 }
 
 // The numbers of a scan of the first column.
@@ -93,8 +104,8 @@ fn the_parts_of_65_rows_have_64_and_1(rt: HostRuntime) -> Result<(), Memory> {
     let alloc = rt.alloc();
     let widths = WIDTHS;
     let mut log = log(&rt, alloc, &widths, 65)?;
-    fill(&rt, alloc, &widths, &mut log, 65)?;
-    let mut snapshot = log.fix(alloc)?;
+    fill(&rt, alloc, &widths, &mut log, 0, 65)?;
+    let mut snapshot = sent(log.fix(alloc)?);
     let mut parts = snapshot.parts(alloc, 2)?;
     assert_eq!(rt; (parts[0].rows(), parts[0].first()), (64, 0));
     assert_eq!(rt; (parts[1].rows(), parts[1].first()), (1, 1));
@@ -104,6 +115,24 @@ fn the_parts_of_65_rows_have_64_and_1(rt: HostRuntime) -> Result<(), Memory> {
     assert!(rt; whole.len() == 65 && first.len() == 64 && second.len() == 1);
     assert!(rt; whole.as_slice().starts_with(first.as_slice()));
     assert!(rt; whole.as_slice().ends_with(second.as_slice()));
+    Ok(())
+}
+
+#[test]
+fn a_snapshot_stays_as_it_was(rt: HostRuntime) -> Result<(), Memory> {
+    let alloc = rt.alloc();
+    let widths = WIDTHS;
+    let mut log = sent(log(&rt, alloc, &widths, 129)?);
+    fill(&rt, alloc, &widths, &mut log, 0, 65)?;
+    let mut first = log.fix(alloc)?;
+    let before = scan(&rt, alloc, &mut first)?;
+    fill(&rt, alloc, &widths, &mut log, 65, 129)?;
+    let mut second = log.fix(alloc)?;
+    assert_eq!(rt; (first.rows(), second.rows()), (65, 129));
+    let after = scan(&rt, alloc, &mut first)?;
+    assert_eq!(rt; before.as_slice(), after.as_slice());
+    let all = scan(&rt, alloc, &mut second)?;
+    assert!(rt; all.len() == 129 && all.as_slice().starts_with(before.as_slice()));
     Ok(())
 }
 

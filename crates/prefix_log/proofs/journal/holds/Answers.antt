@@ -1,4 +1,4 @@
-use Rattle.std.proofs.Common.{◌≡◌, ◌<◌, ◌≢◌, sym, length, get_or, rules, arith}
+use Rattle.std.proofs.Common.{◌≡◌, ◌<◌, ◌≢◌, sym, length, get_or, rules}
 use Rattle.prefix_log.proofs.Journals.{absent_more, present}
 use Rattle.prefix_log.proofs.journal.holds.Goals as goal
 

@@ -1,5 +1,4 @@
-use Rattle.std.proofs.Common.{◌≡◌, ◌<◌, ℕ, length, true, arith}
-use Rattle.list_facts.specs.Count.{has}
+use Rattle.std.proofs.Common.{◌<◌, ℕ, length, arith}
 use Rattle.prefix_log.proofs.Journals.{past_all}
 use Rattle.prefix_log.proofs.journal.prefix_of.Goals as goal
 

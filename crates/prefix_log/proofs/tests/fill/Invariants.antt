@@ -1,9 +1,9 @@
-use Rattle.std.proofs.Common.{◌≡◌, ◌≤◌}
+use Rattle.std.proofs.Common.{◌≡◌}
 use Rattle.prefix_log.proofs.tests.fill.Given as goal
 
 abbrev pub invariant-loop-n : goal.invariant-loop-n
 invariant-loop-n g l = record {
   server : l.log.server ≡ 0;
   widths : l.log.widths ≡ l.widths;
-  room : l.count ≤ l.log.capacity;
+  capacity : l.log.capacity ≡ l.fn.log.capacity;
 }

@@ -1,33 +1,39 @@
-use Rattle.std.proofs.Common.{◌≡◌, sym, subst, take}
+use Rattle.std.proofs.Common.{sym, subst, List, map, take, arith}
 use Rattle.std.specs.Prelude.{vec_capacity}
+use Rattle.std.specs.Arc.{arc_value}
+use Rattle.prefix_log.specs.Chunks.{AreFirst, Halves, HaveRows, first_rows}
 use Rattle.prefix_log.specs.Logs.{Log}
-use Rattle.prefix_log.specs.Rows.{first_rows}
 use Rattle.prefix_log.specs.Snapshots.{HoldsPieces, pieces_in}
-use Rattle.prefix_log.proofs.Kept.{first_filled, slots_taken}
-use Rattle.prefix_log.proofs.Fixed.{fixed_holds, fixed_shelf}
+use Rattle.prefix_log.proofs.Fixed.{first_have, fixed_holds, prefix_fits, store_rows}
 use Rattle.prefix_log.proofs.log.ServerLog.fix.Goals as goal
 
-pub slice_bounds-placed-end : goal.slice_bounds-placed-end
-slice_bounds-placed-end c =
+pub seal-requires-clause-there : goal.seal-requires-clause-there
+seal-requires-clause-there c =
     let s = c.self.inside in
-    let log : Log = record { server = s.server; widths = s.widths; capacity = s.capacity; journal = s.journal.items; slots = s.slots.items } in
-    rw c.as_slice.ensures.value (sym (slots_taken (vec_capacity s.journal) s.prefix log c.self.invariant))
+    let fits = prefix_fits (vec_capacity s.journal) s.prefix s.server s.widths s.capacity s.journal.items s.filled.items s.chunks c.self.invariant.0 c.self.invariant.1 in
+    omega (arith, fits, c.self.invariant.1.places.count)
 
-pub columns_of-requires-clause-filled : goal.columns_of-requires-clause-filled
-columns_of-requires-clause-filled c =
+pub first-requires-clause-there : goal.first-requires-clause-there
+first-requires-clause-there c =
     let s = c.self.inside in
-    let log : Log = record { server = s.server; widths = s.widths; capacity = s.capacity; journal = s.journal.items; slots = s.slots.items } in
-    rw c.as_slice.ensures.value (first_filled (vec_capacity s.journal) s.prefix log c.self.invariant)
+    subst (HaveRows s.widths s.prefix) (sym c.seal.ensures.chunks) (store_rows (vec_capacity s.journal) s.prefix s.server s.widths s.capacity s.journal.items s.filled.items s.chunks c.self.invariant.0 c.self.invariant.1)
 
-pub new-requires-clause-shelf : goal.new-requires-clause-shelf
-new-requires-clause-shelf c =
+pub new-requires-clause-few : goal.new-requires-clause-few
+new-requires-clause-few c =
     let s = c.self.inside in
-    let log : Log = record { server = s.server; widths = s.widths; capacity = s.capacity; journal = s.journal.items; slots = s.slots.items } in
-    fixed_shelf (vec_capacity s.journal) s.prefix log c.as_slice.result.now c.in_ok-columns.columns.items c.self.invariant c.as_slice.ensures.value c.in_ok-columns.ensures
+    let fits = prefix_fits (vec_capacity s.journal) s.prefix s.server s.widths s.capacity s.journal.items s.filled.items s.chunks c.self.invariant.0 c.self.invariant.1 in
+    omega (arith, fits, c.self.invariant.0.legal.fits.1)
+
+pub new-requires-clause-there : goal.new-requires-clause-there
+new-requires-clause-there c =
+    let s = c.self.inside in
+    let have = store_rows (vec_capacity s.journal) s.prefix s.server s.widths s.capacity s.journal.items s.filled.items s.chunks c.self.invariant.0 c.self.invariant.1 in
+    first_have s.widths s.prefix c.seal.new.self.chunks (map arc_value c.in_ok-chunks.chunks.items) c.in_ok-chunks.ensures (subst (HaveRows s.widths s.prefix) (sym c.seal.ensures.chunks) have)
 
 pub returns-clause-pieces : goal.returns-clause-pieces
 returns-clause-pieces c =
     let s = c.self.inside in
-    let log : Log = record { server = s.server; widths = s.widths; capacity = s.capacity; journal = s.journal.items; slots = s.slots.items } in
-    subst (λ (v : Log). HoldsPieces v.widths (pieces_in (take c.new.result.rows.count v.slots)) (first_rows c.new.result.rows.count c.new.result.rows.start c.new.result.rows.columns.items)) c.self.view_is
-    (fixed_holds (vec_capacity s.journal) s.prefix log c.as_slice.result.now c.in_ok-columns.columns.items _ c.self.invariant c.as_slice.ensures.value c.in_ok-columns.ensures c.new.ensures.held)
+    let r = c.new.result.rows in
+    let are = subst (λ (l : List (List Halves)). AreFirst s.widths s.prefix l (map arc_value c.in_ok-chunks.chunks.items)) c.seal.ensures.chunks c.in_ok-chunks.ensures in
+    subst (λ (v : Log). HoldsPieces v.widths (pieces_in (take r.count v.slots)) (first_rows r.widths r.count r.start (map arc_value r.chunks.items))) c.self.view_is
+    (fixed_holds (vec_capacity s.journal) s.prefix s.server s.widths s.capacity s.journal.items s.filled.items s.chunks c.self.invariant.0 c.self.invariant.1 (map arc_value c.in_ok-chunks.chunks.items) are _ c.new.ensures.held)

@@ -1,7 +1,9 @@
-use Rattle.std.proofs.Common.{◌≡◌, ◌∙◌, ◌+◌, ◌-◌, ◌/◌, ◌%◌, ◌<◌, ◌≤◌, [], cond, ltb, rules, arith}
+use Rattle.std.proofs.Common.{◌≡◌, ◌∙◌, ◌+◌, ◌/◌, ◌%◌, ◌<◌, ◌≤◌, [], cond, ltb, map, rules, arith}
 use Rattle.scan_chunks.specs.Pieces.{chunks_of}
-use Rattle.prefix_log.specs.Rows.{first_rows}
+use Rattle.std.specs.Arc.{arc_value}
+use Rattle.prefix_log.specs.Chunks.{first_rows}
 use Rattle.prefix_log.specs.declared.snapshot.Snapshot.{Snapshot}
+use Rattle.prefix_log.proofs.Cuts.{is_shelf}
 use Rattle.prefix_log.proofs.Parts.{all_parts, all_pushed, part_pushed, shared_all, shared_more}
 use Rattle.prefix_log.proofs.snapshot.Snapshot.parts.Goals as goal
 
@@ -18,8 +20,8 @@ loop-worker-preserved c =
     let left = shared_more count (chunks / count) (chunks % count) c.loop-worker.worker low c.from.result chunks lt i.left bit in
     let few : c.from.result ≤ 1 = search rules in
     record {
-      so_far = part_pushed (λ (s : Snapshot). first_rows s.rows.count s.rows.start s.rows.columns.items) chunks count low (low + chunks / count + c.from.result) (first_rows r.count r.start r.columns.items)
-          c.loop-worker.parts.items c.push.new.self.items c.in_ok-part.field-0 c.in_ok-push.ensures.items r.shelf (omega arith) (omega (arith, left, size)) (omega arith) (omega (arith, few)) i.so_far c.in_ok-part.ensures.held;
+      so_far = part_pushed (λ (s : Snapshot). first_rows s.rows.widths s.rows.count s.rows.start (map arc_value s.rows.chunks.items)) chunks count low (low + chunks / count + c.from.result) (first_rows r.widths r.count r.start (map arc_value r.chunks.items))
+          c.loop-worker.parts.items c.push.new.self.items c.in_ok-part.field-0 c.in_ok-push.ensures.items (is_shelf r.widths r.count r.start (map arc_value r.chunks.items) r.few) (omega arith) (omega (arith, left, size)) (omega arith) (omega (arith, few)) i.so_far c.in_ok-part.ensures.held;
       visits = all_pushed (λ (s : Snapshot). s.visits.items ≡ []) c.loop-worker.parts.items c.push.new.self.items c.in_ok-part.field-0 c.in_ok-push.ensures.items i.visits c.in_ok-part.ensures.visits;
       made = search rules;
       left = left;
@@ -36,4 +38,4 @@ returns-clause-rows c = λ column le.
     let size : chunks ≡ chunks_of r.count = search rules in
     let longer : chunks % count ≤ count = omega arith in
     let whole = shared_all count (chunks / count) (chunks % count) c.loop-worker.worker c.loop-worker.low chunks done longer i.left in
-    all_parts chunks count c.loop-worker.low column (first_rows r.count r.start r.columns.items) _ r.shelf (whole ∙ size) le i.so_far
+    all_parts chunks count c.loop-worker.low column (first_rows r.widths r.count r.start (map arc_value r.chunks.items)) _ (is_shelf r.widths r.count r.start (map arc_value r.chunks.items) r.few) (whole ∙ size) le i.so_far

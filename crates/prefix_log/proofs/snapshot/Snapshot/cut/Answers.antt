@@ -1,0 +1,10 @@
+use Rattle.std.proofs.Common.{ap, map}
+use Rattle.std.specs.Arc.{arc_value}
+use Rattle.prefix_log.proofs.Cuts.{cut_is_at}
+use Rattle.prefix_log.proofs.snapshot.Snapshot.cut.Goals as goal
+
+pub returns-clause-cut : goal.returns-clause-cut
+returns-clause-cut c =
+    let r = c.args.self.now.rows in
+    let e = c.cut.ensures in
+    cut_is_at r.widths _ c.args.n _ r.count r.start _ (map arc_value r.chunks.items) _ c.requires e.widths e.count e.start (ap (map arc_value) e.chunks)

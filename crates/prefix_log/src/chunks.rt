@@ -1,0 +1,157 @@
+//! The cells of all places, by chunks of 64.
+ghost use Rattle.std.specs.Prelude.{◌≡◌, ◌+◌, ◌*◌, ◌/◌, ◌%◌, ◌<◌, ◌≤◌, IfOk, OnOk, OnErr, length, map, reverse};
+ghost use Rattle.std.specs.Arc.{arc_value};
+ghost use Rattle.onehot_column.specs.Piece.{HasWidths};
+ghost use Rattle.scan_chunks.specs.Pieces.{chunks_of};
+ghost use Rattle.prefix_log.specs.Chunks.{AreFirst, HasRoom, HaveRows, HavePlaces, PlaceWritten, chunk_at};
+
+use crate::chunk::Chunk;
+use onehot_column::Piece;
+use ring128::Memory;
+use std::alloc::Global;
+use std::marker::Model;
+use std::sync::Arc;
+use table_schema::Widths;
+
+// The first chunks are sealed: they are shared with snapshots and stay as they are. The others are open, the last one
+// first, so that the next one to be sealed is at the end.
+#[derive(Drop)]
+pub(crate) struct Chunks {
+    sealed: Vec<Arc<Chunk>>,
+    open: Vec<Chunk>,
+}
+
+impl Model for Chunks {
+    ghost use Rattle.std.specs.Prelude.{◌+◌, ◌≤◌, ◌++◌, length, map, reverse, vec_capacity};
+    ghost use Rattle.std.specs.Arc.{arc_value};
+    ghost use Rattle.prefix_log.specs.Chunks.{Store};
+
+    ghost Value = { Store };
+
+    ghost view = { λ s. record { sealed = length s.sealed.items; chunks = map arc_value s.sealed.items ++ reverse s.open.items } };
+
+    ghost invariant = { λ s. length s.sealed.items + length s.open.items ≤ vec_capacity s.sealed };
+}
+
+impl Chunks {
+    // No rows, with room for so many. All memory that pieces will ever want is taken here.
+    pub fn new(alloc: Global, widths: &Widths, capacity: u32) -> Result<Chunks, Memory>
+        requires { capacity ≤ 65536 }
+        ensures sealed { IfOk result (λ s. s.sealed ≡ 0) }
+        ensures places { IfOk result (λ s. HavePlaces widths.now capacity s.chunks) }
+    {
+        let count = capacity.div_ceil(64);
+        Ok(Chunks {
+            sealed: Vec::with_capacity(alloc, count as usize)?,
+            open: free_chunks(alloc, widths, capacity, count)?,
+        })
+    }
+
+    // Writes the cells of a piece at a place of an open chunk. It takes no memory.
+    pub fn write(&mut self, widths: &Widths, place: u64, piece: &Piece)
+        requires open { 64 * self.old.sealed ≤ place }
+        requires there { place / 64 < length self.old.chunks }
+        requires room { HasRoom widths.now (place % 64 + 1) (chunk_at self.old.chunks (place / 64)) }
+        requires widths { HasWidths widths.now piece.now }
+        ensures sealed { self.new.sealed ≡ self.old.sealed }
+        ensures written { PlaceWritten widths.now place piece.now.cells.first piece.now.cells.second self.old.chunks self.new.chunks }
+    {
+        let behind = self.sealed.len() + self.open.len() - 1 - (place / 64) as usize;
+        self.open[behind].write(widths, (place % 64) as usize, piece);
+    }
+
+    // Seals chunks until so many are. No cell is copied. After want of memory some of them may be sealed.
+    pub fn seal(&mut self, alloc: Global, count: u64) -> Result<(), Memory>
+        requires more { self.old.sealed ≤ count }
+        requires there { count ≤ length self.old.chunks }
+        ensures chunks { self.new.chunks ≡ self.old.chunks }
+        ensures sealed { self.new.sealed ≤ count }
+        ensures all { OnOk result (self.new.sealed ≡ count) }
+    {
+        for _ in self.count()..count {
+            self.seal_next(alloc)?;
+        }
+        Ok(())
+    }
+
+    // How many chunks are sealed.
+    fn count(&self) -> u64
+        ensures { result ≡ self.now.sealed }
+    {
+        self.sealed.len() as u64
+    }
+
+    // Moves the next chunk into shared memory.
+    fn seal_next(&mut self, alloc: Global) -> Result<(), Memory>
+        requires { self.old.sealed < length self.old.chunks }
+        ensures chunks { self.new.chunks ≡ self.old.chunks }
+        ensures ok { OnOk result (self.new.sealed ≡ self.old.sealed + 1) }
+        ensures err { OnErr result (self.new.sealed ≡ self.old.sealed) }
+    {
+        match Arc::new(alloc, self.open.take_last()) {
+            Ok(chunk) => {
+                self.sealed.push_reserved(chunk);
+                Ok(())
+            }
+            Err(failed) => {
+                self.open.push_reserved(failed.value);
+                Err(Memory)
+            }
+        }
+    }
+
+    // The first rows: the sealed chunks, which are shared, and a copy of the rows that are left.
+    pub fn first(
+        &self,
+        alloc: Global,
+        widths: &Widths,
+        rows: u64,
+    ) -> Result<Vec<Arc<Chunk>>, Memory>
+        requires sealed { self.now.sealed ≡ rows / 64 }
+        requires there { HaveRows widths.now rows self.now.chunks }
+        ensures { IfOk result (λ c. AreFirst widths.now rows self.now.chunks (map arc_value c.items)) }
+    {
+        let mut chunks = shared(alloc, &self.sealed, self.sealed.len() + 1)?;
+        let left = (rows % 64) as usize;
+        if left > 0 {
+            let next = &self.open[self.open.len() - 1];
+            chunks.push(Arc::new(alloc, next.copy(alloc, widths, left)?)?)?;
+        }
+        Ok(chunks)
+    }
+}
+
+// Open chunks with room for so many rows, the last one first.
+fn free_chunks(
+    alloc: Global,
+    widths: &Widths,
+    capacity: u32,
+    count: u32,
+) -> Result<Vec<Chunk>, Memory>
+    requires few { capacity ≤ 65536 }
+    requires count { count ≡ chunks_of capacity }
+    ensures { IfOk result (λ c. HavePlaces widths.now capacity (reverse c.items)) }
+{
+    let mut chunks = Vec::with_capacity(alloc, count as usize)?;
+    for behind in 0..count {
+        let before = 64 * (count - 1 - behind);
+        let rows = 64.min(capacity - before) as usize;
+        chunks.push(Chunk::new(alloc, widths, rows)?)?;
+    }
+    Ok(chunks)
+}
+
+// The same chunks once more, with room for so many. Nothing is copied.
+pub(crate) fn shared(
+    alloc: Global,
+    chunks: &[Arc<Chunk>],
+    room: usize,
+) -> Result<Vec<Arc<Chunk>>, Memory>
+    ensures { IfOk result (λ c. map arc_value c.items ≡ map arc_value chunks.now) }
+{
+    let mut again = Vec::with_capacity(alloc, room)?;
+    for chunk in chunks {
+        again.push(Arc::try_clone(chunk)?)?;
+    }
+    Ok(again)
+}
