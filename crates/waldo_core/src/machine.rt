@@ -126,6 +126,7 @@ impl Machine {
         ensures widths { self.new.widths ≡ self.old.widths }
         ensures legal { IsLegal self.new.core }
         ensures quiet { IsQuiet event → wire.new ≡ wire.old }
+        ensures refused { (given : Event) → result ≡ Err (StepFault.NotAllowed given) → wire.new ≡ wire.old }
     {
         let done = self.act(rt, alloc, event, wire);
         let _ = &self.order; // a look at the machine, whose core is legal
@@ -150,6 +151,7 @@ impl Machine {
             × (¬ Rose (W.alterations wire.old) (W.alterations wire.new) → IsOk (named event result) → IsPlain self.old.core event pair) }
         ensures accepted { ¬ Rose (W.alterations wire.old) (W.alterations wire.new) → IfOk (named event result) (λ reply. is_altered reply ≡ false) }
         ensures quiet { IsQuiet event → wire.new ≡ wire.old }
+        ensures refused { result ≡ Ok None → wire.new ≡ wire.old }
     {
         match event {
             Event::Draw { actor, row, seed } => self.draw(alloc, actor, &row, &seed),
@@ -260,6 +262,7 @@ impl Machine {
             × (¬ Rose (W.alterations wire.old) (W.alterations wire.new) → IsOk (named event result) → IsPlain self.now.core event pair) }
         ensures accepted { ¬ Rose (W.alterations wire.old) (W.alterations wire.new)
             → IfOk (named (Event.Answer number query.now seed.now) result) (λ reply. is_altered reply ≡ false) }
+        ensures refused { result ≡ Ok None → wire.new ≡ wire.old }
     {
         let Some(agreement) = self.agreement(number) else {
             return Ok(None);

@@ -7,6 +7,9 @@ use Rattle.waldo_core.proofs.answer.open_pair.Goals as goal
 pub returns-in_err-shelves-clause-messages : goal.returns-in_err-shelves-clause-messages
 returns-in_err-shelves-clause-messages g c = ([], went_none g.W.Wire.told g.W.Wire.alterations g.W.Wire.passes _ _ refl refl (g.met.W.Wire.none_passes _), no_part _, search rules)
 
+pub both_runs-requires-clause-few : goal.both_runs-requires-clause-few
+both_runs-requires-clause-few g c κs within = omega (arith, c.requires.few, rows_are _ _ _ _ c.requires.zero c.in_ok-shelves.ensures.zero)
+
 pub both_runs-requires-clause-zero : goal.both_runs-requires-clause-zero
 both_runs-requires-clause-zero g c κs within =
     let s = c.in_ok-shelves.ensures in
