@@ -91,7 +91,7 @@ plain_accepted w order n query seed pair held few is =
     let total = word_of (plain query (map (λ (entry : Row × Seed). entry.0) (take n order))) in
     let key = key_from (weights_of seed 1) query.count in
     let small = plain_is_small w query (map (λ (entry : Row × Seed). entry.0) (take n order))
-        (All-map (Holds w) (λ (entry : Row × Seed). entry.0) (take n order) (All-take (λ (entry : Row × Seed). Holds w entry.0) n order held))
-        (omega (arith, length-map (take n order) (λ (entry : Row × Seed). entry.0), length-take n order)) in
+    (All-map (Holds w) (λ (entry : Row × Seed). entry.0) (take n order) (All-take (λ (entry : Row × Seed). Holds w entry.0) n order held))
+    (omega (arith, length-map (take n order) (λ (entry : Row × Seed). entry.0), length-take n order)) in
     ap (λ (p : OpenedPair). is_altered (answered n query seed p)) is
     ∙ ap (λ (r : Result ℕ _). is_altered (reply_of n r)) (accepted total (times key total) key total refl refl (omega (arith, small.1)))

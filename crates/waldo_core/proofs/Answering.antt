@@ -149,7 +149,7 @@ module _ (held : Snapshot → Held) (m : Seen) (number : ℕ) (g : Agreement) (q
     asks.suits,
     subst (λ (o : Option ℕ). OpensOver m.widths m.core.order o query seed ms pair) (sym asks.agreed.agreed) opens,
     by_actor m.capacity number m.core (slice_get m.core.actors number) (held g.zero).rows query seed pair asks.agreed.agreed
-    ∙ ap (λ (r : Reply). Some (m.core, r)) (sym (says ∙ ap (λ (k : Asked). answered (held g.zero).rows k.query k.seed pair) asks.made)),
+        ∙ ap (λ (r : Reply). Some (m.core, r)) (sym (says ∙ ap (λ (k : Asked). answered (held g.zero).rows k.query k.seed pair) asks.made)),
     refl,
   )
 

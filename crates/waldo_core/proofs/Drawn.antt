@@ -107,9 +107,9 @@ module _ (held : Snapshot → Held) (space : ℕ) (t : Table) (i : ℕ) (row : R
       rows = All-push (λ (entry : Row × Seed). Holds t.widths entry.0) t.order (row, seed) ok.rows holds;
       servers = λ k lt. server_grows k t.widths t.capacity t.order (row, seed) (log_of t.logs k) (ok.servers k lt);
       actors = λ j x is. ⊎_elim (λ (same : x ≡ b). subst (λ (y : ActorState). IsActorOf held t.widths (t.order ++ (row, seed) ∷ []) y) (sym same) (record {
-            draw = λ d e. subst (λ (y : OpenDraw). HoldsShares t.widths (t.order ++ (row, seed) ∷ []) y) (same_Some draw d e) (new_shares t.widths t.order row seed draw place has);
-            first = tt;
-          }))
+        draw = λ d e. subst (λ (y : OpenDraw). HoldsShares t.widths (t.order ++ (row, seed) ∷ []) y) (same_Some draw d e) (new_shares t.widths t.order row seed draw place has);
+        first = tt;
+      }))
           (λ (old : slice_get t.actors j ≡ Some x). actor_grows held t.widths t.order (row, seed) x (ok.actors j x old)) (slice_get-set t.actors i b j x is);
       legal = legal_stays.1 t.capacity (core_of held t) _ (events.Draw i row seed) (record { total = 0; weighted = 0 }) (replies.Drew (length t.order)) ok.legal (steps (record { total = 0; weighted = 0 }));
     }

@@ -78,7 +78,7 @@ not_idle a k pending number capacity core pair = by (nat_lt k 3) a.draw
 pub does_place : (held : Snapshot → Held) (k : ℕ) (a b : ActorState) (draw : OpenDraw) → k < 3 → is_pending (seen_fixes held a.snapshots) ≡ false → a.draw ≡ Some draw
     → seen_actor held b ≡ with_draw (seen_actor held a) (placed_at k (seen_draw draw))
     → (capacity number : ℕ) (core : Core) (pair : OpenedPair) → acts capacity core (events.Place number k) pair (Some (seen_actor held a))
-      ≡ Some (with_actor (with_journal core k (with_place draw.place (journal_of core k))) number (seen_actor held b), replies.Placed)
+    ≡ Some (with_actor (with_journal core k (with_place draw.place (journal_of core k))) number (seen_actor held b), replies.Placed)
 does_place held k a b draw lt idle was seen capacity core number pair = rw (lt-ltb k 3 lt, was, idle, seen) refl
 
 -- a placing, step by step

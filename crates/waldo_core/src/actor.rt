@@ -47,7 +47,7 @@ impl ActorState {
         ensures { self.new ≡ record { floor = self.old.floor; draw = Some draw; snapshots = Snapshots.Unfixed } }
     {
         self.draw = Some(draw);
-        self.snapshots = Snapshots::Unfixed;
+        self.snapshots = Snapshots::Unfixed; // an agreement ends here
     }
 
     /// Places the piece of the open draw at a server, unless it was placed there before.

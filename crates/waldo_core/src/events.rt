@@ -8,32 +8,16 @@ use table_schema::Row;
 #[derive(Clone, Copy, Debug)]
 pub enum Event {
     /// Draws the next place for a row, which its seed splits among the servers.
-    Draw {
-        actor: u8,
-        row: Row,
-        seed: Seed,
-    },
+    Draw { actor: u8, row: Row, seed: Seed },
     /// Puts the open draw's piece at a server, from 0 to 2.
-    Place {
-        actor: u8,
-        server: u8,
-    },
+    Place { actor: u8, server: u8 },
     /// Sees how many of the first places a server has.
-    Look {
-        actor: u8,
-        server: u8,
-    },
+    Look { actor: u8, server: u8 },
     /// Holds the rows that the next of the three servers has, from server 0 on; the third time the actor agrees on the
     /// least of what it found.
-    Fix {
-        actor: u8,
-    },
+    Fix { actor: u8 },
     /// Asks a query, with its seed, over the rows that the actor agreed on.
-    Answer {
-        actor: u8,
-        query: Query,
-        seed: Seed,
-    },
+    Answer { actor: u8, query: Query, seed: Seed },
 }
 
 /// What an event that has a case replies.

@@ -84,7 +84,9 @@ fn reply<R: Abort + Threads + Sync>(
     ensures { machine.new.widths ≡ machine.old.widths }
 {
     let mut wire = StraightWire::new();
-    if let Event::Draw { row, .. } = event && !widths.holds(&row) {
+    if let Event::Draw { row, .. } = event
+        && !widths.holds(&row)
+    {
         return Err("a row of other widths".into());
     }
     match machine.step(rt, alloc, event, &mut wire) {

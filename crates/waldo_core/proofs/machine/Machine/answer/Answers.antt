@@ -29,7 +29,7 @@ returns-then-not-suits-clause-stepped g c =
       nothing,
       went_none g.W.Wire.told g.W.Wire.alterations g.W.Wire.passes _ _ refl refl (g.met.W.Wire.none_passes _),
       not_suited c.args.self.now c.args.number c.args.query.now c.args.seed.now
-      (λ suits. unfit (subst (λ (v : Seen). Suits v.widths.columns v.widths.bits c.args.query.now) (sym c.self.view_is) suits)) nothing,
+          (λ suits. unfit (subst (λ (v : Seen). Suits v.widths.columns v.widths.bits c.args.query.now) (sym c.self.view_is) suits)) nothing,
       λ still ok. absurd cc,
     )
 
