@@ -98,8 +98,8 @@ module _ {W : Type 0} (told : W → Option (List Message)) (alterations : W → 
         ended = (
           history_of w task.setting task.style task.steps leads.history first_stage end leads.advances,
           subst (EndsWith p)
-          (sym (played_all w task.setting task.style (pair_at leads.history) task.steps leads.history 0 first_stage end leads.advances (same_pairs leads.history)))
-          (report, altered),
+              (sym (played_all w task.setting task.style (pair_at leads.history) task.steps leads.history 0 first_stage end leads.advances (same_pairs leads.history)))
+              (report, altered),
         );
         accepted = λ still. altered ∙ leads.calm still;
       }

@@ -1,6 +1,6 @@
 -- Where each answer opened the plain one, steps come to what they come to plainly.
-use Rattle.std.proofs.Common.{◌≡◌, ◌∙◌, refl, sym, ap, subst, ℕ, zero, suc, ◌+◌, List, [], ◌∷◌, arith}
-use Rattle.std.specs.Prelude.{⊤, IfSome, IsSomeAnd, Option, Some, None, Result, Ok, Err, option_map, slice_get}
+use Rattle.std.proofs.Common.{◌≡◌, ◌∙◌, refl, sym, ap, subst, ℕ, suc, ◌+◌, List, [], ◌∷◌, arith}
+use Rattle.std.specs.Prelude.{⊤, IfSome, IsSomeAnd, Option, Some, None, Result, option_map, slice_get}
 use Rattle.server_rounds.specs.declared.opened.OpenedPair.{OpenedPair}
 use Rattle.table_schema.specs.declared.widths.Widths.{Widths}
 use Rattle.waldo_core.specs.Answers.{IsPlain, IsPlainOver, rows_agreed}
@@ -9,9 +9,8 @@ use Rattle.waldo_core.specs.Core.Fixes.{Unfixed, First, Second, Agreed}
 use Rattle.waldo_core.specs.Step.{acts, step}
 use Rattle.waldo_core.specs.declared.events.Event.{Event}
 use Rattle.waldo_core.specs.declared.events.Event.TheVariants as events
-use Rattle.waldo_core.specs.declared.events.Reply.{Reply}
 use Rattle.waldo_words.specs.declared.schedule.Step.{Step}
-use Rattle.schedule_play.specs.History.{Done, IsHistory, HasHistory, HasNoCase, opened_in, pair_at}
+use Rattle.schedule_play.specs.History.{Done, IsHistory, HasHistory, opened_in, pair_at}
 use Rattle.schedule_play.specs.Plain.{ArePlain, IsPlainOf, plain_of, plain_over, plainly}
 use Rattle.schedule_play.specs.Stages.{Opening, Stage, event_of, first_stage, go_on, next_stage, played, played_on, step_of, with_reply}
 use Rattle.schedule_play.specs.Tasks.{Setting, Task}

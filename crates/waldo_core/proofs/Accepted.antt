@@ -1,5 +1,5 @@
 -- Where nothing was altered no reply says so.
-use Rattle.std.proofs.Common.{◌≡◌, ◌∙◌, refl, sym, ap, subst, ℕ, ◌+◌, ◌<◌, ◌≤◌, ◌^◌, Bool, true, false, eq-eqb, Option, Some, None, slice_get, List, [], All, length, map, take, arith}
+use Rattle.std.proofs.Common.{◌≡◌, ◌∙◌, refl, sym, ap, subst, ℕ, ◌<◌, ◌≤◌, ◌^◌, Bool, true, false, eq-eqb, Option, Some, None, slice_get, List, All, length, map, take, arith}
 use Rattle.std.specs.Prelude.{Result, Ok, Err, IfOk, is_some, nat_lt, ◌||◌, if◌then◌else◌}
 use Rattle.std.proofs.lemmas.Bool.{lt-ltb}
 use Rattle.std.proofs.lemmas.List.{length-map, length-take}
@@ -19,11 +19,11 @@ use Rattle.transcript.specs.Plain.{plain}
 use Rattle.transcript.proofs.Small.{plain_is_small}
 use Rattle.weighted_check.specs.Check.{checked}
 use Rattle.waldo_core.specs.Answers.{IsQuiet, plain_pair}
-use Rattle.waldo_core.specs.Core.{Actor, Core, Fixes, Open, is_pending, journal_of, prefix}
+use Rattle.waldo_core.specs.Core.{Actor, Core, Fixes, Open, is_pending, prefix}
 use Rattle.waldo_core.specs.Core.Fixes.{Unfixed, First, Second, Agreed}
-use Rattle.waldo_core.specs.Machines.{Seen, Stepped}
+use Rattle.waldo_core.specs.Machines.{Seen}
 use Rattle.waldo_core.specs.Outcomes.{Quietly, named}
-use Rattle.waldo_core.specs.Step.{actor_of, acts, answered, drawn, fix_step, is_altered, is_server, place_step, placed, reply_of, step}
+use Rattle.waldo_core.specs.Step.{actor_of, acts, answered, drawn, fix_step, is_altered, is_server, place_step, placed, reply_of}
 use Rattle.waldo_core.specs.declared.events.Event.{Event}
 use Rattle.waldo_core.specs.declared.events.Event.TheVariants as events
 use Rattle.waldo_core.specs.declared.events.Reply.{Reply}

@@ -1,16 +1,16 @@
 -- What an actor's step does to the machine.
-use Rattle.std.proofs.Common.{◌≡◌, ◌∙◌, refl, sym, ap, subst, ℕ, ◌<◌, ◌≤◌, ◌⊎◌, inl, inr, ⊎_elim, Option, Some, None, slice_get, List, [], length, set, map, arith}
-use Rattle.std.specs.Prelude.{Result, Ok, Err, option_map}
-use Rattle.std.proofs.lemmas.List.{length-map, map-set}
-use Rattle.std.proofs.lemmas.Option.{slice_get-map, slice_get_past}
+use Rattle.std.proofs.Common.{◌≡◌, ◌∙◌, sym, ap, subst, ℕ, ◌<◌, inr, ⊎_elim, Option, Some, slice_get, List, [], set, map}
+use Rattle.std.specs.Prelude.{Result, option_map}
+use Rattle.std.proofs.lemmas.List.{map-set}
+use Rattle.std.proofs.lemmas.Option.{slice_get-map}
 use Rattle.prefix_log.specs.declared.snapshot.Snapshot.{Snapshot}
 use Rattle.scan_chunks.specs.Shelf.{Held}
 use Rattle.server_rounds.specs.declared.opened.OpenedPair.{OpenedPair}
 use Rattle.ring128.specs.declared.memory.Memory.{Memory}
 use Rattle.waldo_core.specs.Answers.{IsPlain}
-use Rattle.waldo_core.specs.Core.{Actor, Core, with_actor}
+use Rattle.waldo_core.specs.Core.{Core}
 use Rattle.waldo_core.specs.Held.{HasNone, IsActorOf, IsMachine, IsServer, Table, core_of, log_of, seen_actor, seen_machine}
-use Rattle.waldo_core.specs.Legal.{IsActor, IsLegal}
+use Rattle.waldo_core.specs.Legal.{IsActor}
 use Rattle.waldo_core.specs.Machines.{HasNoCase, Seen, Stepped}
 use Rattle.waldo_core.specs.Outcomes.{Quietly, named}
 use Rattle.waldo_core.specs.Step.{actor_of, acts, step}

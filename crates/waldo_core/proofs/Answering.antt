@@ -1,6 +1,6 @@
 -- An answer.
-use Rattle.std.proofs.Common.{◌≡◌, ◌∙◌, refl, sym, ap, subst, ℕ, ◌+◌, ◌*◌, ◌≤◌, inl, inr, Bool, true, false, Option, Some, None, slice_get, List, [], All, map, length, take, arith}
-use Rattle.std.specs.Prelude.{Result, Ok, Err, option_map}
+use Rattle.std.proofs.Common.{◌≡◌, ◌∙◌, refl, sym, ap, subst, ℕ, ◌+◌, ◌*◌, inl, inr, false, Option, Some, None, slice_get, List, [], All, length, take, arith}
+use Rattle.std.specs.Prelude.{Ok}
 use Rattle.prefix_log.specs.declared.snapshot.Snapshot.{Snapshot}
 use Rattle.prg_chacha.specs.declared.seed.Seed.{Seed}
 use Rattle.query_plan.specs.KeyMessages.{Asked}
@@ -19,13 +19,13 @@ use Rattle.transcript.specs.Setup.{setup_for}
 use Rattle.transcript.specs.Transcript.{IsPart, IsTranscript, opened_of}
 use Rattle.wire_line.specs.Messages.{IsHonest}
 use Rattle.wire_line.specs.declared.message.Message.{Message}
-use Rattle.waldo_core.specs.Answers.{Begins, BeginsOver, Carries, IsPlain, IsPlainOver, Opens, OpensOver, agreed_in, plain_pair, rows_agreed, setup_over}
+use Rattle.waldo_core.specs.Answers.{Begins, BeginsOver, IsPlain, IsPlainOver, Opens, OpensOver, agreed_in, plain_pair, rows_agreed, setup_over}
 use Rattle.waldo_core.specs.Core.{Actor, Core, Fixes}
 use Rattle.waldo_core.specs.Core.Fixes.{Unfixed, First, Second, Agreed}
-use Rattle.waldo_core.specs.Held.{AgreeOn, AreFirst, AreRowsOf, IsAgreement, IsMachine, KeepsFirst, Table, core_of, seen_actor, seen_fixes, seen_machine}
-use Rattle.waldo_core.specs.Machines.{HasNoCase, Seen, Stepped}
+use Rattle.waldo_core.specs.Held.{AgreeOn, AreFirst, AreRowsOf, IsAgreement, IsMachine, KeepsFirst, Table, seen_fixes, seen_machine}
+use Rattle.waldo_core.specs.Machines.{Seen, Stepped}
 use Rattle.waldo_core.specs.Outcomes.{named}
-use Rattle.waldo_core.specs.Step.{acts, answer_step, answered, is_altered, step}
+use Rattle.waldo_core.specs.Step.{acts, answer_step, answered, is_altered}
 use Rattle.waldo_core.specs.declared.actor.ActorState.{ActorState}
 use Rattle.waldo_core.specs.declared.events.Event.TheVariants as events
 use Rattle.waldo_core.specs.declared.events.Reply.{Reply}

@@ -1,11 +1,10 @@
 -- A machine in which nothing was drawn.
-use Rattle.std.proofs.Common.{◌≡◌, ◌∙◌, refl, sym, ap, subst, ℕ, zero, suc, ◌<◌, ◌≤◌, Bool, true, false, Option, Some, None, slice_get, List, [], All, length, map, arith}
+use Rattle.std.proofs.Common.{◌≡◌, ◌∙◌, refl, sym, ap, subst, ℕ, zero, suc, ◌<◌, ◌≤◌, true, false, Option, Some, None, slice_get, List, [], arith}
 use Rattle.std.specs.Prelude.{is_some, option_map}
 use Rattle.std.specs.List.{range_with_len}
 use Rattle.std.proofs.lemmas.List.Elements.{All-nil}
 use Rattle.std.proofs.lemmas.Option.{slice_get-map}
 use Rattle.list_facts.specs.Listed.{listed}
-use Rattle.onehot_column.specs.declared.piece.Piece.{Piece}
 use Rattle.prefix_log.specs.Logs.{Log, empty_log, piece_at}
 use Rattle.prefix_log.specs.declared.snapshot.Snapshot.{Snapshot}
 use Rattle.prefix_log.proofs.Kept.{free_at}

@@ -1,7 +1,7 @@
 -- A draw.
-use Rattle.std.proofs.Common.{◌≡◌, ◌∙◌, refl, sym, ap, subst, ℕ, zero, suc, ◌+◌, ◌<◌, ◌≤◌, ◌⊎◌, ⊎_elim, Bool, true, false, Option, Some, None, slice_get, List, [], ◌∷◌, ◌++◌, All, length, set, map, arith}
-use Rattle.std.specs.Prelude.{Result, Ok, Err, is_some, not, nat_lt, ◌||◌, if◌then◌else◌}
-use Rattle.std.proofs.lemmas.Bool.{lt-ltb, le-ltb}
+use Rattle.std.proofs.Common.{◌≡◌, ◌∙◌, refl, sym, ap, subst, ℕ, zero, suc, ◌<◌, ⊎_elim, Bool, true, false, Some, None, slice_get, List, [], ◌∷◌, ◌++◌, length, set, map, arith}
+use Rattle.std.specs.Prelude.{Ok, is_some, not, ◌||◌, if◌then◌else◌}
+use Rattle.std.proofs.lemmas.Bool.{lt-ltb}
 use Rattle.std.proofs.lemmas.List.{length-append}
 use Rattle.std.proofs.lemmas.List.Elements.{All-push}
 use Rattle.std.proofs.lemmas.Option.{same_Some}
@@ -18,12 +18,11 @@ use Rattle.waldo_core.specs.Core.{Actor, Core, is_pending}
 use Rattle.waldo_core.specs.Core.Fixes.{Unfixed}
 use Rattle.waldo_core.specs.Held.{HoldsShares, IsActorOf, IsMachine, IsShareAt, Table, core_of, log_of, piece_for, seen_actor, seen_machine}
 use Rattle.waldo_core.specs.Machines.{Seen, Stepped}
-use Rattle.waldo_core.specs.Outcomes.{Quietly, named}
+use Rattle.waldo_core.specs.Outcomes.{Quietly}
 use Rattle.waldo_core.specs.Step.{acts, drawn, step}
 use Rattle.waldo_core.specs.declared.actor.ActorState.{ActorState}
 use Rattle.waldo_core.specs.declared.draw.OpenDraw.{OpenDraw}
 use Rattle.waldo_core.specs.declared.events.Event.TheVariants as events
-use Rattle.waldo_core.specs.declared.events.Reply.{Reply}
 use Rattle.waldo_core.specs.declared.events.Reply.TheVariants as replies
 use Rattle.waldo_core.specs.declared.snapshots.Snapshots.TheVariants as found
 use Rattle.waldo_core.proofs.Acts.{seen_set, seen_there}

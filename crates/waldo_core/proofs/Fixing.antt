@@ -1,8 +1,8 @@
 -- A fix.
-use Rattle.std.proofs.Common.{◌≡◌, ◌∙◌, refl, sym, ap, subst, ℕ, zero, suc, ◌<◌, ◌≤◌, Bool, true, false, Option, Some, None, slice_get, List, length, min, set, arith}
-use Rattle.std.specs.Prelude.{Result, Ok, Err, nat_lt, if◌then◌else◌}
+use Rattle.std.proofs.Common.{◌≡◌, ◌∙◌, refl, sym, ap, subst, ℕ, ◌<◌, ◌≤◌, Some, slice_get, List, min, set, arith}
+use Rattle.std.specs.Prelude.{Ok}
 use Rattle.std.proofs.lemmas.Bool.{lt-ltb, le-ltb}
-use Rattle.prefix_log.specs.Logs.{IsLog, Log}
+use Rattle.prefix_log.specs.Logs.{IsLog}
 use Rattle.prefix_log.specs.declared.snapshot.Snapshot.{Snapshot}
 use Rattle.prg_chacha.specs.declared.seed.Seed.{Seed}
 use Rattle.scan_chunks.specs.Shelf.{Held}
@@ -10,11 +10,11 @@ use Rattle.server_rounds.specs.declared.opened.OpenedPair.{OpenedPair}
 use Rattle.table_schema.specs.declared.rows.Row.{Row}
 use Rattle.table_schema.specs.declared.widths.Widths.{Widths}
 use Rattle.waldo_core.specs.Core.{Actor, Core, prefix, with_actor}
-use Rattle.waldo_core.specs.Held.{AgreeOn, AgreesAfter, AreCuts, AreFirst, Fixed, IsActorOf, IsFixOf, IsMachine, IsServer, Keeps, Kept, KeepsFirst, Table, core_of, log_of, next_server_of, seen_actor, seen_fixes, seen_machine}
+use Rattle.waldo_core.specs.Held.{AgreeOn, AreCuts, AreFirst, Fixed, IsActorOf, IsFixOf, IsMachine, IsServer, Keeps, Kept, KeepsFirst, Table, core_of, log_of, next_server_of, seen_actor, seen_machine}
 use Rattle.waldo_core.specs.Machines.{Seen}
-use Rattle.waldo_core.specs.Outcomes.{Quietly, named}
+use Rattle.waldo_core.specs.Outcomes.{Quietly}
 use Rattle.waldo_core.specs.declared.snapshots.Agreement.{Agreement}
-use Rattle.waldo_core.specs.Step.{acts, fix_step, step}
+use Rattle.waldo_core.specs.Step.{acts, step}
 use Rattle.waldo_core.specs.declared.actor.ActorState.{ActorState}
 use Rattle.waldo_core.specs.declared.events.Event.TheVariants as events
 use Rattle.waldo_core.specs.declared.events.Reply.{Reply}

@@ -1,6 +1,6 @@
 -- A look.
-use Rattle.std.proofs.Common.{◌≡◌, ◌∙◌, refl, sym, ap, subst, ℕ, zero, suc, ◌<◌, ◌≤◌, Bool, true, false, Option, Some, None, slice_get, List, length, max, set, arith}
-use Rattle.std.specs.Prelude.{Result, Ok, Err, nat_lt, if◌then◌else◌}
+use Rattle.std.proofs.Common.{◌≡◌, ◌∙◌, refl, sym, ap, subst, ℕ, zero, suc, ◌<◌, ◌≤◌, Bool, true, false, Option, Some, None, slice_get, List, max, set}
+use Rattle.std.specs.Prelude.{Ok, nat_lt, if◌then◌else◌}
 use Rattle.std.proofs.lemmas.Bool.{lt-ltb, le-ltb}
 use Rattle.prefix_log.specs.declared.snapshot.Snapshot.{Snapshot}
 use Rattle.scan_chunks.specs.Shelf.{Held}
@@ -8,10 +8,9 @@ use Rattle.server_rounds.specs.declared.opened.OpenedPair.{OpenedPair}
 use Rattle.waldo_core.specs.Core.{Actor, Core, is_pending, journal_of, prefix, with_actor}
 use Rattle.waldo_core.specs.Held.{AreFirst, HasNone, IsActorOf, IsMachine, Looks, LooksAt, Table, core_of, log_of, seen_actor, seen_fixes, seen_machine}
 use Rattle.waldo_core.specs.Machines.{Seen}
-use Rattle.waldo_core.specs.Outcomes.{Quietly, named}
+use Rattle.waldo_core.specs.Outcomes.{Quietly}
 use Rattle.waldo_core.specs.Step.{acts, looked, step}
 use Rattle.waldo_core.specs.declared.actor.ActorState.{ActorState}
-use Rattle.waldo_core.specs.declared.draw.OpenDraw.{OpenDraw}
 use Rattle.waldo_core.specs.declared.events.Event.TheVariants as events
 use Rattle.waldo_core.specs.declared.events.Reply.{Reply}
 use Rattle.waldo_core.specs.declared.events.Reply.TheVariants as replies

@@ -1,14 +1,12 @@
 -- The messages over the shelves of an agreement are those over the rows of the order.
-use Rattle.std.proofs.Common.{◌≡◌, ◌∙◌, refl, sym, ap, subst, ℕ, zero, suc, ◌+◌, ◌*◌, ◌%◌, ◌<◌, ◌≤◌, List, [], ◌∷◌, All, length, map, get_or, take, arith}
+use Rattle.std.proofs.Common.{◌≡◌, ◌∙◌, sym, subst, ℕ, zero, suc, ◌+◌, ◌%◌, ◌<◌, ◌≤◌, List, [], take, arith}
 use Rattle.std.proofs.lemmas.List.{length-take-le}
 use Rattle.std.proofs.lemmas.List.Elements.{All-weaker}
-use Rattle.list_facts.specs.Count.{total}
 use Rattle.onehot_column.specs.Code.{width_of}
-use Rattle.prefix_log.specs.Snapshots.{KeepsRows}
 use Rattle.prg_chacha.specs.declared.seed.Seed.{Seed}
 use Rattle.query_plan.specs.Query.{shaped}
 use Rattle.query_plan.specs.declared.query.Query.{Query}
-use Rattle.scan_chunks.specs.Laws.{AreParts, GoOn}
+use Rattle.scan_chunks.specs.Laws.{GoOn}
 use Rattle.scan_chunks.specs.Pieces.{Pieces}
 use Rattle.scan_chunks.specs.Shelf.{Held}
 use Rattle.server_rounds.specs.Groups.{by_server}
@@ -17,11 +15,10 @@ use Rattle.table_schema.specs.declared.rows.Row.{Row}
 use Rattle.table_schema.specs.declared.widths.Widths.{Widths}
 use Rattle.transcript.specs.Laws.{HasColumns, SamePieces}
 use Rattle.transcript.specs.Rows.{cells_over, pieces_over}
-use Rattle.transcript.specs.Setup.{Setup, Sizes, column_of, count_of, setup_for}
-use Rattle.transcript.specs.Transcript.{IsPart, IsTranscript, opened_of}
+use Rattle.transcript.specs.Setup.{Setup, setup_for}
+use Rattle.transcript.specs.Transcript.{IsPart, IsTranscript}
 use Rattle.transcript.proofs.Agree.{columns_suffice}
 use Rattle.wire_line.specs.declared.message.Message.{Message}
-use Rattle.waldo_core.specs.Answers.{setup_over}
 use Rattle.waldo_core.specs.Held.{AgreeOn, ArePartsOf, AreRowsOf, KeepsFirst}
 
 -- ---- one server's shelves

@@ -1,12 +1,11 @@
 -- A placing.
-use Rattle.std.proofs.Common.{◌≡◌, ◌∙◌, refl, sym, ap, subst, ℕ, zero, suc, ◌+◌, ◌<◌, ◌≤◌, ◌⊎◌, inl, inr, Bool, true, false, Option, Some, None, slice_get, List, [], length, set, map, arith}
-use Rattle.std.specs.Prelude.{Result, Ok, Err, is_none, is_some, nat_lt, ◌&&◌, if◌then◌else◌}
+use Rattle.std.proofs.Common.{◌≡◌, ◌∙◌, refl, sym, ap, subst, ℕ, zero, suc, ◌<◌, ◌≤◌, Bool, true, false, Option, Some, None, slice_get, List, set, arith}
+use Rattle.std.specs.Prelude.{Ok, is_none, nat_lt, if◌then◌else◌}
 use Rattle.std.proofs.lemmas.Bool.{lt-ltb, le-ltb}
-use Rattle.std.proofs.lemmas.Option.{slice_get_within}
 use Rattle.list_facts.specs.Count.{has}
 use Rattle.onehot_column.specs.Piece.{HasWidths}
 use Rattle.onehot_column.specs.declared.piece.Piece.{Piece}
-use Rattle.prefix_log.specs.Logs.{Log, IsLog, IsOwn, placed as log_placed}
+use Rattle.prefix_log.specs.Logs.{Log, IsLog, IsOwn}
 use Rattle.prefix_log.specs.declared.snapshot.Snapshot.{Snapshot}
 use Rattle.prg_chacha.specs.declared.seed.Seed.{Seed}
 use Rattle.scan_chunks.specs.Shelf.{Held}
@@ -14,10 +13,10 @@ use Rattle.server_rounds.specs.declared.opened.OpenedPair.{OpenedPair}
 use Rattle.table_schema.specs.declared.rows.Row.{Row}
 use Rattle.table_schema.specs.declared.widths.Widths.{Widths}
 use Rattle.waldo_core.specs.Core.{Actor, Core, Open, is_pending, journal_of, with_actor, with_journal}
-use Rattle.waldo_core.specs.Held.{AreFirst, CanPlace, HasNone, HoldsShares, IsActorOf, IsMachine, IsServer, IsShareAt, Places, PlacesPiece, Table, core_of, log_of, piece_for, seen_actor, seen_draw, seen_fixes, seen_machine, seen_open, with_log, with_piece, without}
-use Rattle.waldo_core.specs.Legal.{IsActor, IsOpen}
+use Rattle.waldo_core.specs.Held.{AreFirst, CanPlace, HasNone, HoldsShares, IsActorOf, IsMachine, IsServer, IsShareAt, Places, PlacesPiece, Table, core_of, log_of, piece_for, seen_actor, seen_draw, seen_fixes, seen_machine, seen_open, with_piece, without}
+use Rattle.waldo_core.specs.Legal.{IsOpen}
 use Rattle.waldo_core.specs.Machines.{Seen}
-use Rattle.waldo_core.specs.Outcomes.{Quietly, named}
+use Rattle.waldo_core.specs.Outcomes.{Quietly}
 use Rattle.waldo_core.specs.Step.{acts, place_step, placed_at, step, with_draw, with_place}
 use Rattle.waldo_core.specs.declared.actor.ActorState.{ActorState}
 use Rattle.waldo_core.specs.declared.draw.OpenDraw.{OpenDraw}

@@ -1,5 +1,5 @@
 -- Over messages that were not altered a query opens the plain answer over the rows that were agreed on.
-use Rattle.std.proofs.Common.{◌≡◌, ◌∙◌, refl, sym, ap, subst, ℕ, ◌≤◌, List, All, length, map, take, arith}
+use Rattle.std.proofs.Common.{◌≡◌, ◌∙◌, refl, sym, ap, ℕ, ◌≤◌, List, All, length, map, take}
 use Rattle.std.proofs.lemmas.List.{length-map, length-take-le}
 use Rattle.std.proofs.lemmas.List.Elements.{All-take}
 use Rattle.onehot_column.specs.Code.{word_of}
@@ -8,14 +8,12 @@ use Rattle.query_plan.specs.Laws.{AreKeysOf}
 use Rattle.query_plan.specs.Query.{Suits}
 use Rattle.query_plan.specs.Seeds.{weights_of}
 use Rattle.query_plan.specs.declared.query.Query.{Query}
-use Rattle.ring128.specs.Ring.{times}
 use Rattle.server_rounds.specs.declared.opened.OpenedPair.{OpenedPair}
 use Rattle.table_schema.specs.Widths.{Holds}
 use Rattle.table_schema.specs.declared.rows.Row.{Row}
 use Rattle.table_schema.specs.declared.widths.Widths.{Widths}
 use Rattle.transcript.specs.Laws.{Asks}
 use Rattle.transcript.specs.Plain.{plain}
-use Rattle.transcript.specs.Rows.{pieces_over}
 use Rattle.transcript.proofs.Held.{pieces_hold}
 use Rattle.transcript.proofs.Honest.{pair_opens}
 use Rattle.wire_line.specs.Messages.{IsHonest}

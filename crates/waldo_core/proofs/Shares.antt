@@ -1,5 +1,5 @@
 -- Pieces and rows of the order: they stay as the order grows, as a log takes a piece, and in a snapshot.
-use Rattle.std.proofs.Common.{◌≡◌, ◌∙◌, refl, sym, ap, subst, ℕ, zero, suc, ◌+◌, ◌<◌, ◌≤◌, ◌⊎◌, inl, inr, ⊎_elim, Bool, true, false, cond, Option, Some, None, slice_get, List, [], ◌∷◌, ◌++◌, length, get_or, set, take, arith}
+use Rattle.std.proofs.Common.{◌≡◌, ◌∙◌, refl, sym, ap, subst, ℕ, zero, suc, ◌<◌, ◌≤◌, ⊎_elim, Bool, true, false, cond, Option, Some, None, List, [], ◌∷◌, ◌++◌, length, get_or, set, take, arith}
 use Rattle.std.specs.Prelude.{is_some}
 use Rattle.std.proofs.lemmas.List.{length-append, length-take, take-append-le, take-take}
 use Rattle.std.proofs.lemmas.Option.{same_Some, slice_get_within}
@@ -19,9 +19,8 @@ use Rattle.table_schema.specs.declared.rows.Row.{Row}
 use Rattle.table_schema.specs.declared.widths.Widths.{Widths}
 use Rattle.waldo_core.specs.Core.{prefix}
 use Rattle.waldo_core.specs.Step.{with_place}
-use Rattle.waldo_core.specs.Held.{AgreeOn, AreFirst, HoldsShares, IsActorOf, IsFixOf, IsServer, IsShareAt, KeepsFirst, piece_for}
+use Rattle.waldo_core.specs.Held.{AreFirst, IsActorOf, IsFixOf, IsServer, IsShareAt, KeepsFirst}
 use Rattle.waldo_core.specs.declared.actor.ActorState.{ActorState}
-use Rattle.waldo_core.specs.declared.draw.OpenDraw.{OpenDraw}
 use Rattle.waldo_core.specs.declared.snapshots.Snapshots.{Snapshots}
 use Rattle.waldo_core.specs.declared.snapshots.Snapshots.TheVariants as found
 use Rattle.waldo_core.proofs.Elements.{get_or-set, slice_get-append}

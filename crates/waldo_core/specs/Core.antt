@@ -1,5 +1,5 @@
 -- The core: one order of draws, the journals of three servers, and what sixteen actors have seen and have under way.
-use Rattle.std.specs.Prelude.{ℕ, zero, suc, ◌+◌, ◌&&◌, Bool, true, false, if◌then◌else◌, Option, None, List, [], length, slice_set}
+use Rattle.std.specs.Prelude.{ℕ, zero, suc, ◌+◌, Bool, true, false, if◌then◌else◌, Option, None, List, [], length, slice_set}
 use Rattle.list_facts.specs.Count.{has}
 use Rattle.list_facts.specs.Listed.{listed}
 use Rattle.prg_chacha.specs.declared.seed.Seed.{Seed}

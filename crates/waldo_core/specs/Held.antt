@@ -1,5 +1,5 @@
 -- What the machine holds of a core. A snapshot is seen through what it holds as a shelf.
-use Rattle.std.specs.Prelude.{◌≡◌, ℕ, zero, suc, ◌+◌, ◌<◌, ◌≤◌, ⊤, Bool, false, is_none, Option, Some, None, List, [], All, length, map, min, max, slice_get, take}
+use Rattle.std.specs.Prelude.{◌≡◌, ℕ, zero, suc, ◌<◌, ◌≤◌, ⊤, is_none, Option, Some, None, List, All, length, map, min, slice_get, take}
 use Rattle.onehot_column.specs.Code.{width_of}
 use Rattle.onehot_column.specs.Piece.{HasWidths, IsPiece}
 use Rattle.onehot_column.specs.declared.piece.Piece.{Piece}
@@ -15,11 +15,11 @@ use Rattle.table_schema.specs.Widths.{Fits, Holds, column_bits}
 use Rattle.table_schema.specs.declared.rows.Row.{Row}
 use Rattle.table_schema.specs.declared.widths.Widths.{Widths}
 use Rattle.waldo_core.specs.Answers.{rows_agreed}
-use Rattle.waldo_core.specs.Core.{Actor, Core, Fixes, Open, is_pending, journal_of, prefix, with_actor, with_journal}
+use Rattle.waldo_core.specs.Core.{Actor, Core, Fixes, Open, journal_of, prefix, with_actor, with_journal}
 use Rattle.waldo_core.specs.Core.Fixes.{Unfixed, First, Second, Agreed}
 use Rattle.waldo_core.specs.Legal.{IsLegal}
 use Rattle.waldo_core.specs.Machines.{Seen}
-use Rattle.waldo_core.specs.Step.{acts, is_server, with_place}
+use Rattle.waldo_core.specs.Step.{acts, with_place}
 use Rattle.waldo_core.specs.declared.actor.ActorState.{ActorState}
 use Rattle.waldo_core.specs.declared.draw.OpenDraw.{OpenDraw}
 use Rattle.waldo_core.specs.declared.events.Event.{Event}

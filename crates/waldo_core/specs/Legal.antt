@@ -1,5 +1,5 @@
 -- Which states of the core are legal.
-use Rattle.std.specs.Prelude.{◌≡◌, ◌≢◌, ℕ, ◌+◌, ◌<◌, ◌≤◌, ⊤, Bool, true, false, Option, Some, None, List, All, length, slice_get}
+use Rattle.std.specs.Prelude.{◌≡◌, ℕ, ◌<◌, ◌≤◌, ⊤, true, false, Some, All, length, slice_get}
 use Rattle.list_facts.specs.Count.{times, has}
 use Rattle.waldo_core.specs.Core.{Actor, Core, Fixes, Open, journal_of, prefix}
 use Rattle.waldo_core.specs.Core.Fixes.{Unfixed, First, Second, Agreed}

@@ -1,12 +1,12 @@
 -- What contracts see of a machine, and what a step does to it.
-use Rattle.std.specs.Prelude.{◌≡◌, ℕ, ⊤, ◌⊎◌, Option, Some, None, Result, Ok, Err, List, []}
+use Rattle.std.specs.Prelude.{◌≡◌, ℕ, ⊤, ◌⊎◌, Some, None, Result, Ok, Err, List, []}
 use Rattle.table_schema.specs.Widths.{Fits, Holds, cells_of, column_bits}
 use Rattle.table_schema.specs.declared.widths.Widths.{Widths}
 use Rattle.prefix_log.specs.declared.fault.OpenFault.{OpenFault}
 use Rattle.prefix_log.specs.declared.fault.OpenFault.TheVariants as open_faults
 use Rattle.server_rounds.specs.declared.opened.OpenedPair.{OpenedPair}
 use Rattle.wire_line.specs.declared.message.Message.{Message}
-use Rattle.waldo_core.specs.Answers.{Begins, Carries, IsPlain}
+use Rattle.waldo_core.specs.Answers.{Begins, Carries}
 use Rattle.waldo_core.specs.Core.{Core, empty_core}
 use Rattle.waldo_core.specs.Step.{Suited, step}
 use Rattle.waldo_core.specs.declared.events.Event.{Event}

@@ -1,5 +1,5 @@
 -- What each event does to the core, and its reply.
-use Rattle.std.specs.Prelude.{◌≡◌, ℕ, zero, suc, ◌+◌, ◌&&◌, ◌||◌, Bool, true, false, if◌then◌else◌, nat_lt, is_some, ⊤, Option, Some, None, Result, Ok, Err, List, [], ◌∷◌, ◌++◌, length, slice_get, min, max}
+use Rattle.std.specs.Prelude.{ℕ, zero, suc, ◌+◌, ◌&&◌, ◌||◌, Bool, true, false, if◌then◌else◌, nat_lt, is_some, ⊤, Option, Some, None, Result, Ok, Err, List, [], ◌∷◌, ◌++◌, length, slice_get, min, max}
 use Rattle.list_facts.specs.Count.{has}
 use Rattle.prg_chacha.specs.declared.seed.Seed.{Seed}
 use Rattle.query_plan.specs.Query.{Suits}

@@ -1,4 +1,4 @@
-use Rattle.std.proofs.Common.{rules, refl, sym, ap, ◌∙◌, ◌≡◌, ℕ, List, [], map, arith}
+use Rattle.std.proofs.Common.{rules, refl, [], arith}
 use Rattle.std.proofs.lemmas.Result.{IfOk-weaker}
 use Rattle.wire_line.specs.Carried.{went_none}
 use Rattle.waldo_core.proofs.OverRows.{all_over_same, are_shelves_of, no_part, over_same, rows_are, same_parts}

@@ -1,4 +1,4 @@
-use Rattle.std.proofs.Common.{◌≡◌, ◌∙◌, ap, ℕ, List, [], ◌∷◌, ◌++◌, arith}
+use Rattle.std.proofs.Common.{◌∙◌, ap, ℕ, List, [], ◌∷◌, ◌++◌, arith}
 use Rattle.list_facts.proofs.Listed.{listed_more}
 use Rattle.waldo_core.specs.Held.{fresh_state}
 use Rattle.waldo_core.specs.declared.actor.ActorState.{ActorState}

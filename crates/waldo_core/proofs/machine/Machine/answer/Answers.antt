@@ -1,4 +1,4 @@
-use Rattle.std.proofs.Common.{◌≡◌, ◌∙◌, refl, sym, ap, subst, List, [], All, Ok, Err}
+use Rattle.std.proofs.Common.{◌∙◌, refl, sym, ap, subst, [], All}
 use Rattle.std.proofs.lemmas.Bool.{iff_false}
 use Rattle.std.proofs.lemmas.Result.{err_from_is_err_and}
 use Rattle.prg_chacha.specs.declared.seed.Seed.{Seed}

@@ -1,4 +1,4 @@
-use Rattle.std.proofs.Common.{◌≡◌, ◌∙◌, ◌<◌, refl, sym, ap, subst, length, arith, Some}
+use Rattle.std.proofs.Common.{◌∙◌, refl, sym, ap, subst, arith, Some}
 use Rattle.std.proofs.lemmas.Option.{same_Some, slice_get_read}
 use Rattle.table_schema.specs.Widths.{Holds}
 use Rattle.table_schema.specs.declared.widths.Widths.{Widths}

@@ -1,6 +1,5 @@
-use Rattle.std.proofs.Common.{◌≡◌, ◌∙◌, length, slice_get, Some}
+use Rattle.std.proofs.Common.{◌∙◌}
 use Rattle.std.proofs.lemmas.Option.{slice_get_read}
-use Rattle.waldo_core.specs.Held.{Table}
 use Rattle.waldo_core.proofs.Placed.{can_place, placed_done, placed_kept}
 use Rattle.waldo_core.proofs.machine.Machine.place.Goals as goal
 
