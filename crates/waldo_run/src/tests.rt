@@ -28,7 +28,7 @@ const ANSWERED: &str =
 const ANSWERED_TEXT: &str =
     "draw 0 place 0\ndraw 1 place 1\nask 1.0 again server 2 had 0 floor 2\nask 1.1 rows 2 count 1\n";
 
-const CASES: [Case; 49] = [
+const CASES: [Case; 50] = [
     (COUNT, INPUT, 0, "ask 0 rows 3 count 2\n"),
     (COUNT, "host,value\n", 0, "ask 0 rows 0 count 0\n"),
     (
@@ -237,6 +237,12 @@ const CASES: [Case; 49] = [
         "",
         0,
         "ask 0 rows 3 sum 4294966297\nask 1 rows 3 count 1\n",
+    ),
+    (
+        "make|host:5|--number|1|--rows|65536|--query|count host=0|--query|sum host<=1",
+        "",
+        0,
+        "ask 0 rows 65536 count 2048\nask 1 rows 65536 sum 138311680\n",
     ),
     ("make|host:2", "", 2, "waldo: missing --query\n"),
     // Commands that are not built yet.
@@ -493,6 +499,50 @@ fn an_interval_of_a_day(rt: HostRuntime) -> Result<(), Fail> {
         0
     );
     assert!(&rt; sink.bytes() == b"ask 0 rows 200 sum 453\n".as_slice());
+    Ok(())
+}
+
+// So many rows, row i of host i modulo 4 and with value i.
+fn hosts(alloc: Global, rows: u64) -> Result<String, Memory> {
+    let mut text = String::from_str(alloc, "host,value\n")?;
+    for i in 0..rows {
+        writeln!(text, "{},{}", i % 4, i)?;
+    }
+    Ok(text)
+}
+
+// The words over these rows put this text.
+fn answers<R: Abort + Threads + Sync>(
+    rt: &R,
+    alloc: Global,
+    words: &str,
+    input: &str,
+    text: &str,
+) -> Result<(), Memory> {
+    let list = words_of(alloc, words)?;
+    let mut source = SureSource::new(alloc, input.as_bytes())?;
+    let mut sink = MemorySink::new(alloc, 1000, &[])?;
+    let mut wires = straight_wires(alloc)?;
+    assert_eq!(rt; wires.len(), 16);
+    assert_eq!(rt; run_still(rt, alloc, &list, &mut source, &mut sink, &mut wires), 0);
+    assert!(rt; sink.bytes() == text.as_bytes(), "{words}");
+    Ok(())
+}
+
+// One chunk, and one row more, scanned in one part and in 16.
+#[test]
+fn chunks_and_workers(rt: HostRuntime) -> Result<(), Fail> {
+    let alloc = rt.alloc();
+    let cases = [(64, "ask 0 rows 64 sum 480\n"), (65, "ask 0 rows 65 sum 544\n")];
+    for (rows, text) in cases {
+        let input = hosts(alloc, rows).ok().ok_or("memory")?;
+        for words in [
+            "ask|host:2|--query|sum host=0|--workers|1",
+            "ask|host:2|--query|sum host=0|--workers|16",
+        ] {
+            answers(&rt, alloc, words, &input, text).ok().ok_or("memory")?;
+        }
+    }
     Ok(())
 }
 
