@@ -1,5 +1,5 @@
 //! The cells of a column of a chunk.
-ghost use Rattle.std.specs.Prelude.{◌≡◌, ℕ, ◌+◌, ◌<◌, ◌≤◌, IfOk, length, vec_capacity, slice_index, take};
+ghost use Rattle.std.specs.Prelude.{◌≡◌, ℕ, ◌+◌, ◌++◌, ◌<◌, ◌≤◌, IfOk, length, vec_capacity, slice_index, take};
 ghost use Rattle.prefix_log.specs.Chunks.{HalvesWritten, IsWritten};
 
 use ring128::Memory;
@@ -75,6 +75,28 @@ impl Cells {
 
 // Writes a part over cells from a place on; what was not there yet is 0.
 fn write(cells: &mut Vec<u128>, start: usize, part: &[u128])
+    requires { start + length part.now ≤ vec_capacity cells.old }
+    ensures written { IsWritten start part.now cells.old.items cells.new.items }
+    ensures room { vec_capacity cells.old ≤ vec_capacity cells.new }
+{
+    if start == cells.len() {
+        append(cells, part);
+    } else {
+        overwrite(cells, start, part);
+    }
+}
+
+// Adds a part at the end, as rows that come in order do, within the room that there is.
+fn append(cells: &mut Vec<u128>, part: &[u128])
+    requires { length cells.old.items + length part.now ≤ vec_capacity cells.old }
+    ensures items { cells.new.items ≡ cells.old.items ++ part.now }
+    ensures room { vec_capacity cells.old ≤ vec_capacity cells.new }
+{
+    let _ = cells.extend_from_slice(part);
+}
+
+// Writes a part anywhere else.
+fn overwrite(cells: &mut Vec<u128>, start: usize, part: &[u128])
     requires { start + length part.now ≤ vec_capacity cells.old }
     ensures written { IsWritten start part.now cells.old.items cells.new.items }
     ensures room { vec_capacity cells.old ≤ vec_capacity cells.new }

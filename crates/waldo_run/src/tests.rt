@@ -524,7 +524,10 @@ fn answers<R: Abort + Threads + Sync>(
     let mut sink = MemorySink::new(alloc, 1000, &[])?;
     let mut wires = straight_wires(alloc)?;
     assert_eq!(rt; wires.len(), 16);
-    assert_eq!(rt; run_still(rt, alloc, &list, &mut source, &mut sink, &mut wires), 0);
+    assert_eq!(rt;
+        run_still(rt, alloc, &list, &mut source, &mut sink, &mut wires),
+        0
+    );
     assert!(rt; sink.bytes() == text.as_bytes(), "{words}");
     Ok(())
 }
@@ -533,14 +536,19 @@ fn answers<R: Abort + Threads + Sync>(
 #[test]
 fn chunks_and_workers(rt: HostRuntime) -> Result<(), Fail> {
     let alloc = rt.alloc();
-    let cases = [(64, "ask 0 rows 64 sum 480\n"), (65, "ask 0 rows 65 sum 544\n")];
+    let cases = [
+        (64, "ask 0 rows 64 sum 480\n"),
+        (65, "ask 0 rows 65 sum 544\n"),
+    ];
     for (rows, text) in cases {
         let input = hosts(alloc, rows).ok().ok_or("memory")?;
         for words in [
             "ask|host:2|--query|sum host=0|--workers|1",
             "ask|host:2|--query|sum host=0|--workers|16",
         ] {
-            answers(&rt, alloc, words, &input, text).ok().ok_or("memory")?;
+            answers(&rt, alloc, words, &input, text)
+                .ok()
+                .ok_or("memory")?;
         }
     }
     Ok(())
