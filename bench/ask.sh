@@ -45,3 +45,6 @@ best "4 columns, 64527 rows, 3 predicates" ask $four --query "sum c0=1 c1=1 c2=1
 best "4 columns, 64527 rows, 4 predicates" ask $four --query "sum c0=1 c1=1 c2=1 c3=1"
 "$home/bench/rows.sh" 64526 4 > "$input"; echo "16,1,1,1,1" >> "$input"
 best "4 columns, 64527 rows, read" ask $four --query "sum c0=1"
+
+best "make, 65536 rows, a count" make host:5 --number 1 --rows 65536 --query "count host=0"
+best "make, 65536 rows, a count and a sum" make host:5 --number 1 --rows 65536 --query "count host=0" --query "sum host<=1"
