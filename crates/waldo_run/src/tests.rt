@@ -28,7 +28,7 @@ const ANSWERED: &str =
 const ANSWERED_TEXT: &str =
     "draw 0 place 0\ndraw 1 place 1\nask 1.0 again server 2 had 0 floor 2\nask 1.1 rows 2 count 1\n";
 
-const CASES: [Case; 50] = [
+const CASES: [Case; 51] = [
     (COUNT, INPUT, 0, "ask 0 rows 3 count 2\n"),
     (COUNT, "host,value\n", 0, "ask 0 rows 0 count 0\n"),
     (
@@ -80,6 +80,12 @@ const CASES: [Case; 50] = [
     (
         TIME,
         "time,value\n1699999999,1\n",
+        5,
+        "waldo: record 1 Domain\n",
+    ),
+    (
+        "ask|time:8@1700000000/3600,host:4,level:3|--query|sum time=1700000000..1700086399 host=3 level<=2",
+        "time,host,level,value\n1699999999,0,0,1\n",
         5,
         "waldo: record 1 Domain\n",
     ),
@@ -551,6 +557,25 @@ fn chunks_and_workers(rt: HostRuntime) -> Result<(), Fail> {
                 .ok_or("memory")?;
         }
     }
+    Ok(())
+}
+
+#[test]
+fn a_host_that_is_no_text(rt: HostRuntime) -> Result<(), Fail> {
+    let alloc = rt.alloc();
+    let words = words_of(alloc, COUNT).ok().ok_or("memory")?;
+    let mut bytes = Vec::from_slice(alloc, INPUT.as_bytes())?;
+    assert_eq!(&rt; bytes.len(), 25);
+    bytes[16] = 255;
+    let mut source = SureSource::new(alloc, &bytes).ok().ok_or("memory")?;
+    let mut sink = MemorySink::new(alloc, 1000, &[]).ok().ok_or("memory")?;
+    let mut wires = straight_wires(alloc).ok().ok_or("memory")?;
+    assert_eq!(&rt; wires.len(), 16);
+    assert_eq!(&rt;
+        run_still(&rt, alloc, &words, &mut source, &mut sink, &mut wires),
+        5
+    );
+    assert!(&rt; sink.bytes() == b"waldo: record 2 Text\n".as_slice());
     Ok(())
 }
 
