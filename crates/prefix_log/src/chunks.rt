@@ -13,12 +13,12 @@ use std::marker::Model;
 use std::sync::Arc;
 use table_schema::Widths;
 
-// The first chunks are sealed: they are shared with snapshots and stay as they are. The others are open, the last one
+// The first chunks are sealed: they are shared with snapshots and stay as they are. The others are not sealed yet, the last one
 // first, so that the next one to be sealed is at the end.
 #[derive(Drop)]
 pub(crate) struct Chunks {
     sealed: Vec<Arc<Chunk>>,
-    open: Vec<Chunk>,
+    unsealed: Vec<Chunk>,
 }
 
 impl Model for Chunks {
@@ -28,9 +28,9 @@ impl Model for Chunks {
 
     ghost Value = { Store };
 
-    ghost view = { λ s. record { sealed = length s.sealed.items; chunks = map arc_value s.sealed.items ++ reverse s.open.items } };
+    ghost view = { λ s. record { sealed = length s.sealed.items; chunks = map arc_value s.sealed.items ++ reverse s.unsealed.items } };
 
-    ghost invariant = { λ s. length s.sealed.items + length s.open.items ≤ vec_capacity s.sealed };
+    ghost invariant = { λ s. length s.sealed.items + length s.unsealed.items ≤ vec_capacity s.sealed };
 }
 
 impl Chunks {
@@ -43,21 +43,21 @@ impl Chunks {
         let count = capacity.div_ceil(64);
         Ok(Chunks {
             sealed: Vec::with_capacity(alloc, count as usize)?,
-            open: free_chunks(alloc, widths, capacity, count)?,
+            unsealed: free_chunks(alloc, widths, capacity, count)?,
         })
     }
 
     // Writes the cells of a piece at a place of an open chunk. It takes no memory.
     pub fn write(&mut self, widths: &Widths, place: u64, piece: &Piece)
-        requires open { 64 * self.old.sealed ≤ place }
+        requires unsealed { 64 * self.old.sealed ≤ place }
         requires there { place / 64 < length self.old.chunks }
         requires room { HasRoom widths.now (place % 64 + 1) (chunk_at self.old.chunks (place / 64)) }
         requires widths { HasWidths widths.now piece.now }
         ensures sealed { self.new.sealed ≡ self.old.sealed }
         ensures written { PlaceWritten widths.now place piece.now.cells.first piece.now.cells.second self.old.chunks self.new.chunks }
     {
-        let behind = self.sealed.len() + self.open.len() - 1 - (place / 64) as usize;
-        self.open[behind].write(widths, (place % 64) as usize, piece);
+        let behind = self.sealed.len() + self.unsealed.len() - 1 - (place / 64) as usize;
+        self.unsealed[behind].write(widths, (place % 64) as usize, piece);
     }
 
     // Seals chunks until so many are. No cell is copied. After want of memory some of them may be sealed.
@@ -88,13 +88,13 @@ impl Chunks {
         ensures ok { OnOk result (self.new.sealed ≡ self.old.sealed + 1) }
         ensures err { OnErr result (self.new.sealed ≡ self.old.sealed) }
     {
-        match Arc::new(alloc, self.open.take_last()) {
+        match Arc::new(alloc, self.unsealed.take_last()) {
             Ok(chunk) => {
                 self.sealed.push_reserved(chunk);
                 Ok(())
             }
             Err(failed) => {
-                self.open.push_reserved(failed.value);
+                self.unsealed.push_reserved(failed.value);
                 Err(Memory)
             }
         }
@@ -114,7 +114,7 @@ impl Chunks {
         let mut chunks = shared(alloc, &self.sealed, self.sealed.len() + 1)?;
         let left = (rows % 64) as usize;
         if left > 0 {
-            let next = &self.open[self.open.len() - 1];
+            let next = &self.unsealed[self.unsealed.len() - 1];
             chunks.push(Arc::new(alloc, next.copy(alloc, widths, left)?)?)?;
         }
         Ok(chunks)

@@ -49,7 +49,7 @@ begun w most workers = record {
   actors = listed 16 (λ (n : ℕ). fresh_state);
 }
 
-begun_kept : (held : Snapshot → Held) (space : ℕ) (w : Widths) (most workers : ℕ) → Fits (column_bits w) most → most ≤ space → 1 ≤ workers → workers ≤ 16 → IsMachine held space (begun w most workers)
+begun_kept : (held : Snapshot → Held) (space : ℕ) (w : Widths) (most workers : ℕ) → Fits (column_bits w) most → space ≡ most → 1 ≤ workers → workers ≤ 16 → IsMachine held space (begun w most workers)
 begun_kept held space w most workers fits room some few = record {
   fits = fits;
   few = omega arith;
@@ -68,7 +68,7 @@ begun_kept held space w most workers fits room some few = record {
     servers (suc (suc zero)) lt = free_server 2 w most []
     servers (suc (suc (suc k))) lt = absurd (omega arith)
 
-pub new_kept : (held : Snapshot → Held) (space : ℕ) (w : Widths) (most workers : ℕ) (order : List (Row × Seed)) (logs : Logs) (actors : List ActorState) → Fits (column_bits w) most → most ≤ space
+pub new_kept : (held : Snapshot → Held) (space : ℕ) (w : Widths) (most workers : ℕ) (order : List (Row × Seed)) (logs : Logs) (actors : List ActorState) → Fits (column_bits w) most → space ≡ most
     → 1 ≤ workers → workers ≤ 16 → order ≡ [] → logs.zero ≡ empty_log 0 w most → logs.one ≡ empty_log 1 w most → logs.two ≡ empty_log 2 w most → actors ≡ listed 16 (λ (n : ℕ). fresh_state)
     → IsMachine held space (record { widths = w; capacity = most; workers = workers; order = order; logs = logs; actors = actors })
 new_kept held space w most workers order logs actors fits room some few none z0 z1 z2 fresh =

@@ -1,7 +1,7 @@
 -- A draw.
-use Rattle.std.proofs.Common.{◌≡◌, ◌∙◌, refl, sym, ap, subst, ℕ, zero, suc, ◌<◌, ⊎_elim, Bool, true, false, Some, None, slice_get, List, [], ◌∷◌, ◌++◌, length, set, map, arith}
+use Rattle.std.proofs.Common.{◌≡◌, ◌∙◌, refl, sym, ap, subst, ℕ, zero, suc, ◌<◌, ◌≤◌, ⊎_elim, Bool, true, false, Some, None, slice_get, List, [], ◌∷◌, ◌++◌, length, set, map, arith}
 use Rattle.std.specs.Prelude.{Ok, is_some, not, ◌||◌, if◌then◌else◌}
-use Rattle.std.proofs.lemmas.Bool.{lt-ltb}
+use Rattle.std.proofs.lemmas.Bool.{le-ltb, lt-ltb}
 use Rattle.std.proofs.lemmas.List.{length-append}
 use Rattle.std.proofs.lemmas.List.Elements.{All-push}
 use Rattle.std.proofs.lemmas.Option.{same_Some}
@@ -72,6 +72,19 @@ new_shares w order row seed draw place has k piece lt e = by k lt e
 
 module _ (held : Snapshot → Held) (space : ℕ) (t : Table) (i : ℕ) (row : Row) (seed : Seed) (a : ActorState) (here : slice_get t.actors i ≡ Some a)
     (free : not (is_some (seen_actor held a).draw || is_pending (seen_actor held a).fixes) ≡ true) where
+  -- where the order takes no more, nothing is drawn
+  pub full_done : (ok : IsMachine held space t) (order : List (Row × Seed)) (old : Seen) → order ≡ t.order → space ≤ length t.order → seen_machine held t ≡ old
+      → Quietly old (events.Draw i row seed) (seen_machine held (record t { order = order })) (Ok (Some (replies.Full t.capacity)))
+  full_done ok order old same full view pair =
+      let all : t.capacity ≤ length t.order = omega (arith, ok.room, full) in
+      let said : step t.capacity (core_of held t) (events.Draw i row seed) pair ≡ Some (core_of held t, replies.Full t.capacity) =
+      ap (acts t.capacity (core_of held t) (events.Draw i row seed) pair) (seen_there held t i a here)
+      ∙ does_draw (seen_actor held a) row seed free t.capacity i (core_of held t) pair
+      ∙ rw (le-ltb (length t.order) t.capacity all) refl in
+      subst (λ (v : Seen). Stepped v (events.Draw i row seed) [] pair (seen_machine held (record t { order = order })) (Ok (replies.Full t.capacity))) view
+      (subst (λ (o : List (Row × Seed)). Stepped (seen_machine held t) (events.Draw i row seed) [] pair (seen_machine held (record t { order = o })) (Ok (replies.Full t.capacity)))
+      (sym same) (tt, refl, said, refl))
+
   module _ (ok : IsMachine held space t) (draw : OpenDraw) (left : length t.order < t.capacity) (place : draw.place ≡ length t.order) (holds : Holds t.widths row)
       (has : HasPieces t.widths row seed draw) where
     abbrev pub b : ActorState

@@ -1,7 +1,7 @@
 -- A placing.
 use Rattle.std.proofs.Common.{◌≡◌, ◌∙◌, refl, sym, ap, subst, ℕ, zero, suc, ◌<◌, ◌≤◌, Bool, true, false, Option, Some, None, slice_get, List, set, arith}
 use Rattle.std.specs.Prelude.{Ok, is_none, nat_lt, if◌then◌else◌}
-use Rattle.std.proofs.lemmas.Bool.{lt-ltb, le-ltb}
+use Rattle.std.proofs.lemmas.Bool.{le-ltb}
 use Rattle.list_facts.specs.Count.{has}
 use Rattle.onehot_column.specs.Piece.{HasWidths}
 use Rattle.onehot_column.specs.declared.piece.Piece.{Piece}
@@ -13,11 +13,11 @@ use Rattle.server_rounds.specs.declared.opened.OpenedPair.{OpenedPair}
 use Rattle.table_schema.specs.declared.rows.Row.{Row}
 use Rattle.table_schema.specs.declared.widths.Widths.{Widths}
 use Rattle.waldo_core.specs.Core.{Actor, Core, Open, is_pending, journal_of, with_actor, with_journal}
-use Rattle.waldo_core.specs.Held.{AreFirst, CanPlace, HasNone, HoldsShares, IsActorOf, IsMachine, IsServer, IsShareAt, Places, PlacesPiece, Table, core_of, log_of, piece_for, seen_actor, seen_draw, seen_fixes, seen_machine, seen_open, with_piece, without}
+use Rattle.waldo_core.specs.Held.{AreFirst, CanPlace, HasNone, HoldsShares, IsActorOf, IsMachine, IsServer, IsShareAt, Places, PlacesPiece, Table, core_of, log_of, piece_for, seen_actor, seen_draw, seen_machine, seen_open, with_piece, without}
 use Rattle.waldo_core.specs.Legal.{IsOpen}
 use Rattle.waldo_core.specs.Machines.{Seen}
 use Rattle.waldo_core.specs.Outcomes.{Quietly}
-use Rattle.waldo_core.specs.Step.{acts, place_step, placed_at, step, with_draw, with_place}
+use Rattle.waldo_core.specs.Step.{acts, place_step, step, with_place}
 use Rattle.waldo_core.specs.declared.actor.ActorState.{ActorState}
 use Rattle.waldo_core.specs.declared.draw.OpenDraw.{OpenDraw}
 use Rattle.waldo_core.specs.declared.events.Event.TheVariants as events
@@ -25,18 +25,12 @@ use Rattle.waldo_core.specs.declared.events.Reply.{Reply}
 use Rattle.waldo_core.specs.declared.events.Reply.TheVariants as replies
 use Rattle.waldo_core.specs.declared.logs.Logs.{Logs}
 use Rattle.waldo_core.specs.declared.snapshots.Snapshots.{Snapshots}
-use Rattle.waldo_core.specs.declared.snapshots.Snapshots.TheVariants as found
 use Rattle.waldo_core.proofs.Acts.{legal_there, no_case, same_table, seen_set, seen_there, stays}
 use Rattle.waldo_core.proofs.Shares.{journal_placed, server_placed}
 
 -- ---- the actor's part
 
--- the draw without its piece, as the core sees it
-pub seen_without : (k : ℕ) (draw : OpenDraw) → seen_draw (without k draw) ≡ placed_at k (seen_draw draw)
-seen_without zero draw = refl
-seen_without (suc zero) draw = refl
-seen_without (suc (suc k)) draw = refl
-
+-- the draw without its piece stands at the same place
 pub place_without : (k : ℕ) (draw : OpenDraw) → (without k draw).place ≡ draw.place
 place_without zero draw = refl
 place_without (suc zero) draw = refl
@@ -72,29 +66,6 @@ not_idle a k pending number capacity core pair = by (nat_lt k 3) a.draw
     by true None = refl
     by true (Some draw) = rw pending refl
     by false draw = refl
-
--- else it has one
-pub does_place : (held : Snapshot → Held) (k : ℕ) (a b : ActorState) (draw : OpenDraw) → k < 3 → is_pending (seen_fixes held a.snapshots) ≡ false → a.draw ≡ Some draw
-    → seen_actor held b ≡ with_draw (seen_actor held a) (placed_at k (seen_draw draw))
-    → (capacity number : ℕ) (core : Core) (pair : OpenedPair) → acts capacity core (events.Place number k) pair (Some (seen_actor held a))
-    ≡ Some (with_actor (with_journal core k (with_place draw.place (journal_of core k))) number (seen_actor held b), replies.Placed)
-does_place held k a b draw lt idle was seen capacity core number pair = rw (lt-ltb k 3 lt, was, idle, seen) refl
-
--- a placing, step by step
-pub placing : (held : Snapshot → Held) (k : ℕ) (before : Logs) (a : ActorState) (after : Logs) (b : ActorState) (draw rest : OpenDraw) (piece : Option Piece) → k < 3
-    → is_pending (seen_fixes held a.snapshots) ≡ false → a.draw ≡ Some draw → rest ≡ without k draw → piece ≡ piece_for k draw → after ≡ with_piece before k rest.place piece
-    → seen_actor held b ≡ with_draw (seen_actor held a) (seen_draw rest) → ((d : OpenDraw) → b.draw ≡ Some d → d ≡ rest) → b.snapshots ≡ found.Unfixed
-    → PlacesPiece held k before a after b
-placing held k before a after b draw rest piece lt idle was left handed logs seen stay unfixed = record {
-  server = lt;
-  draw = draw;
-  was = was;
-  logs = logs ∙ ap (λ (d : OpenDraw). with_piece before k d.place piece) left ∙ ap (λ (n : ℕ). with_piece before k n piece) (place_without k draw)
-      ∙ ap (with_piece before k draw.place) handed;
-  rest = λ d is. stay d is ∙ left;
-  unfixed = unfixed;
-  does = does_place held k a b draw lt idle was (seen ∙ ap (λ (d : OpenDraw). with_draw (seen_actor held a) (seen_draw d)) left ∙ ap (with_draw (seen_actor held a)) (seen_without k draw));
-}
 
 -- ---- the logs' part
 

@@ -260,12 +260,12 @@ core_of held t = record {
 abbrev pub seen_machine : (Snapshot → Held) → Table → Seen
 seen_machine held t = record { widths = t.widths; capacity = t.capacity; core = core_of held t }
 
--- The order has room for all rows that fit, and its rows are held by the widths; each log and each actor has pieces and rows of the
+-- The order takes as many rows as the table, and its rows are held by the widths; each log and each actor has pieces and rows of the
 -- order alone; and the core is legal.
 pub record IsMachine (held : Snapshot → Held) (space : ℕ) (t : Table) : Type 0 where
   pub fits : Fits (column_bits t.widths) t.capacity
   pub few : length t.order ≤ t.capacity
-  pub room : t.capacity ≤ space
+  pub room : space ≡ t.capacity
   pub some : 1 ≤ t.workers
   pub most : t.workers ≤ 16
   pub rows : All (λ (entry : Row × Seed). Holds t.widths entry.0) t.order

@@ -4,5 +4,6 @@ pub mod Held
 pub mod Laws
 pub mod Legal
 pub mod Machines
+pub mod Orders
 pub mod Outcomes
 pub mod Step

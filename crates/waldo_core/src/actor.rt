@@ -1,6 +1,5 @@
 //! An actor's steps.
-ghost use Rattle.std.specs.Prelude.{◌≡◌, ◌<◌, ◌+◌, ◌^◌, IfOk, OnErr, is_some, not, ◌||◌};
-ghost use Rattle.std.specs.Option.{ForSome};
+ghost use Rattle.std.specs.Prelude.{◌≡◌, ◌<◌, ◌+◌, ◌^◌, IfOk, IfSome, OnErr, Some, is_some, not, ◌||◌};
 ghost use Rattle.waldo_core.specs.Core.{is_pending as pending_in};
 ghost use Rattle.waldo_core.specs.Step.{with_draw};
 ghost use Rattle.waldo_core.specs.Held.{CanPlace, Fixed, Keeps, Looks, Places, fresh_state, seen_actor, seen_draw, seen_fixes};
@@ -58,26 +57,30 @@ impl ActorState {
         if server > 2 || self.snapshots.is_pending() {
             return None;
         }
-        let draw = self.draw.take()?;
-        let (rest, piece) = draw.hand_out(server);
-        logs.place(server, rest.place, piece);
-        self.go_on(rest);
+        let Some(draw) = &mut self.draw else {
+            return None;
+        };
+        let piece = draw.hand_out(server);
+        logs.place(server, draw.place, piece);
+        self.go_on();
         Some(Reply::Placed)
     }
 
-    // Goes on with a draw; where no piece is left, it is closed, and the floor rises above its place.
-    fn go_on(&mut self, draw: OpenDraw)
-        requires { draw.place + 1 < 2 ^ 64 }
-        ensures seen { let held = ⟦<Snapshot as Shelf>⟧.held in seen_actor held self.new ≡ with_draw (seen_actor held self.old) (seen_draw draw) }
-        ensures left { ForSome self.new.draw (λ d. d ≡ draw) }
+    // Goes on with the open draw. What the fixes found ends here; where no piece is left, the draw is closed, and the floor rises above
+    // its place.
+    fn go_on(&mut self)
+        requires { IfSome self.old.draw (λ d. d.place + 1 < 2 ^ 64) }
+        ensures seen { IfSome self.old.draw (λ d. let held = ⟦<Snapshot as Shelf>⟧.held in seen_actor held self.new ≡ with_draw (seen_actor held self.old) (seen_draw d)) }
+        ensures left { IfSome self.new.draw (λ d. self.old.draw ≡ Some d) }
         ensures unfixed { self.new.snapshots ≡ Snapshots.Unfixed }
     {
         self.snapshots = Snapshots::Unfixed;
+        let Some(draw) = &self.draw else {
+            return;
+        };
         if draw.is_done() {
             self.floor = self.floor.max(draw.place + 1);
             self.draw = None;
-        } else {
-            self.draw = Some(draw);
         }
     }
 

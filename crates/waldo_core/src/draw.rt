@@ -15,45 +15,15 @@ pub(crate) struct OpenDraw {
 }
 
 impl OpenDraw {
-    /// The draw without its piece for a server, and that piece, if it was not handed out before.
-    pub(crate) fn hand_out(self, server: u8) -> (OpenDraw, Option<Piece>)
-        ensures rest { result.0 ≡ without server self }
-        ensures piece { result.1 ≡ piece_for server self }
+    /// Takes out the piece for a server, if it was not taken out before.
+    pub(crate) fn hand_out(&mut self, server: u8) -> Option<Piece>
+        ensures rest { self.new ≡ without server self.old }
+        ensures piece { result ≡ piece_for server self.old }
     {
-        let OpenDraw {
-            place,
-            zero,
-            one,
-            two,
-        } = self;
         match server {
-            0 => (
-                OpenDraw {
-                    place,
-                    zero: None,
-                    one,
-                    two,
-                },
-                zero,
-            ),
-            1 => (
-                OpenDraw {
-                    place,
-                    zero,
-                    one: None,
-                    two,
-                },
-                one,
-            ),
-            _ => (
-                OpenDraw {
-                    place,
-                    zero,
-                    one,
-                    two: None,
-                },
-                two,
-            ),
+            0 => self.zero.take(),
+            1 => self.one.take(),
+            _ => self.two.take(),
         }
     }
 

@@ -18,6 +18,7 @@ use crate::answer::{open_pair, reply_over};
 use crate::draw::OpenDraw;
 use crate::events::{Event, Reply, StepFault};
 use crate::logs::Logs;
+use crate::order::Order;
 use crate::snapshots::{Agreement, Snapshots};
 use onehot_column::{RowPieces, pieces};
 use prefix_log::{OpenFault, Snapshot};
@@ -40,13 +41,12 @@ pub struct Machine {
     widths: Widths,
     capacity: u32,
     workers: u8,
-    order: Vec<(Row, Seed)>,
+    order: Order,
     logs: Logs,
     actors: Vec<ActorState>,
 }
 
 impl Model for Machine {
-    ghost use Rattle.std.specs.Prelude.{vec_capacity};
     ghost use Rattle.waldo_core.specs.Machines.{Seen};
 
     ghost Value = { Seen };
@@ -54,10 +54,10 @@ impl Model for Machine {
     ghost use Rattle.waldo_core.specs.Held.{IsMachine, seen_machine};
 
     ghost view = { λ m. seen_machine ⟦<Snapshot as Shelf>⟧.held
-        (record { widths = m.widths; capacity = m.capacity; workers = m.workers; order = m.order.items; logs = m.logs; actors = m.actors.items }) };
+        (record { widths = m.widths; capacity = m.capacity; workers = m.workers; order = m.order.all; logs = m.logs; actors = m.actors.items }) };
 
-    ghost invariant = { λ m. IsMachine ⟦<Snapshot as Shelf>⟧.held (vec_capacity m.order)
-        (record { widths = m.widths; capacity = m.capacity; workers = m.workers; order = m.order.items; logs = m.logs; actors = m.actors.items }) };
+    ghost invariant = { λ m. IsMachine ⟦<Snapshot as Shelf>⟧.held m.order.capacity
+        (record { widths = m.widths; capacity = m.capacity; workers = m.workers; order = m.order.all; logs = m.logs; actors = m.actors.items }) };
 }
 
 impl Machine {
@@ -86,7 +86,7 @@ impl Machine {
         }
     }
 
-    // The same for a capacity that fits. All memory for the order is taken here.
+    // The same for a capacity that fits.
     fn fitting(
         alloc: Global,
         widths: &Widths,
@@ -102,7 +102,7 @@ impl Machine {
             widths: *widths,
             capacity,
             workers,
-            order: Vec::with_capacity(alloc, capacity as usize)?,
+            order: Order::new(alloc, capacity)?,
             logs: Logs::new(alloc, widths, capacity)?,
             actors: fresh_actors(alloc)?,
         })
@@ -179,14 +179,12 @@ impl Machine {
         if i >= self.actors.len() || !self.actors[i].may_draw() {
             return Ok(None);
         }
-        let place = self.order.len() as u64;
-        if place >= u64::from(self.capacity) {
+        let RowPieces { zero, one, two } = pieces(alloc, &self.widths, row, seed)?;
+        let Some(place) = self.order.add(*row, *seed) else {
             return Ok(Some(Reply::Full {
                 capacity: self.capacity,
             }));
-        }
-        let RowPieces { zero, one, two } = pieces(alloc, &self.widths, row, seed)?;
-        self.order.push_reserved((*row, *seed));
+        };
         self.actors[i].begin(OpenDraw {
             place,
             zero: Some(zero),

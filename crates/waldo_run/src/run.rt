@@ -59,18 +59,20 @@ fn answer_bytes<R: Threads + Sync, W: Wire>(
     rt: &R,
     alloc: Global,
     command: &Command,
-    bytes: &[u8],
+    bytes: Vec<u8>,
     wires: &mut Vec<W>,
 ) -> Result<Reply, Memory>
     requires legal { IsLegal command.now }
     requires built { IsBuilt command.now }
     requires wires { length wires.old.items ≡ 16 }
     ensures wires { length wires.new.items ≡ 16 }
-    ensures answers { Answers command.now (rows_in (common_in command.now) bytes.now) (λ history. WiresWent W.told W.alterations W.passes history 0 wires.old.items wires.new.items) (λ actor. ¬ RoseAt W.alterations actor wires.old.items wires.new.items) result }
+    ensures answers { Answers command.now (rows_in (common_in command.now) bytes.items) (λ history. WiresWent W.told W.alterations W.passes history 0 wires.old.items wires.new.items) (λ actor. ¬ RoseAt W.alterations actor wires.old.items wires.new.items) result }
 {
     let common = common_of(command);
     let widths = common.schema.widths();
-    match read_rows(alloc, &common.schema, common.capacity, bytes) {
+    let rows = read_rows(alloc, &common.schema, common.capacity, &bytes);
+    drop(bytes); // the rows stand for them
+    match rows {
         Ok(rows) => answer_rows(rt, alloc, command, &widths, &rows, wires),
         Err(fault) => refused_rows(alloc, fault),
     }
@@ -93,7 +95,7 @@ fn answer_input<R: Threads + Sync, S: Source, W: Wire>(
     ensures memory { OnErr result (Breaks (Ok command.now) (change S.left S.fault_count source.old source.new) (λ history. WiresWent W.told W.alterations W.passes history 0 wires.old.items wires.new.items)) }
 {
     match read_all(alloc, source) {
-        Ok(bytes) => answer_bytes(rt, alloc, command, &bytes, wires),
+        Ok(bytes) => answer_bytes(rt, alloc, command, bytes, wires),
         Err(ReadFault::Failed) => single_line(alloc, 3, Line::ReadFault),
         Err(ReadFault::TooLong) => single_line(alloc, 5, Line::TooLong),
         Err(ReadFault::Memory) => Err(Memory),

@@ -8,7 +8,7 @@ use Rattle.waldo_run.proofs.run.answer_bytes.Goals as goal
 pub returns-in-Err-clause-answers : goal.returns-in-Err-clause-answers
 returns-in-Err-clause-answers g c =
     let command = c.args.command.now in
-    fault_answers command c.widths-widths.result (search rules) c.in-Err.fault (rows_in (common_in command) c.args.bytes.now) _ _
+    fault_answers command c.widths-widths.result (search rules) c.in-Err.fault (rows_in (common_in command) c.args.bytes.items) _ _
     (still_wires g.W.Wire.told g.W.Wire.alterations g.W.Wire.passes g.met.W.Wire.none_passes c.args.wires.now.items)
     (λ some. elim c.in-Err.ensures.exact [ inl memory ↦ absurd (some memory) | inr read ↦ search rules ])
     c.refused_rows.result c.refused_rows.ensures
@@ -17,5 +17,5 @@ pub returns-in-Ok-clause-answers : goal.returns-in-Ok-clause-answers
 returns-in-Ok-clause-answers g c =
     let command = c.args.command.now in
     let h = rw c.deref.ensures.value at c.answer_rows.ensures.asked in
-    let is : rows_in (common_in command) c.args.bytes.now ≡ Ok c.in-Ok.rows.items = search rules in
-    rows_answers command c.in-Ok.rows.items (rows_in (common_in command) c.args.bytes.now) _ _ h.0 is h.1 c.answer_rows.result h.2 h.3
+    let is : rows_in (common_in command) c.args.bytes.items ≡ Ok c.in-Ok.rows.items = search rules in
+    rows_answers command c.in-Ok.rows.items (rows_in (common_in command) c.args.bytes.items) _ _ h.0 is h.1 c.answer_rows.result h.2 h.3

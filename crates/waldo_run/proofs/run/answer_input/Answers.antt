@@ -6,11 +6,11 @@ use Rattle.waldo_run.proofs.run.answer_input.Goals as goal
 
 pub returns-in-Ok-clause-reply : goal.returns-in-Ok-clause-reply
 returns-in-Ok-clause-reply g c =
-    whole_replies c.args.command.now _ c.in-Ok.bytes.items _ _ c.requires.reads c.in-Ok.ensures.whole c.answer_bytes.result (rw c.deref.ensures.value at c.answer_bytes.ensures.answers)
+    whole_replies c.args.command.now _ c.in-Ok.bytes.items _ _ c.requires.reads c.in-Ok.ensures.whole c.answer_bytes.result c.answer_bytes.ensures.answers
 
 pub returns-in-Ok-clause-memory : goal.returns-in-Ok-clause-memory
 returns-in-Ok-clause-memory g c =
-    whole_breaks c.args.command.now _ c.in-Ok.bytes.items _ _ c.requires.reads c.in-Ok.ensures.whole c.answer_bytes.result (rw c.deref.ensures.value at c.answer_bytes.ensures.answers)
+    whole_breaks c.args.command.now _ c.in-Ok.bytes.items _ _ c.requires.reads c.in-Ok.ensures.whole c.answer_bytes.result c.answer_bytes.ensures.answers
 
 pub returns-in-Err-Failed-clause-reply : goal.returns-in-Err-Failed-clause-reply
 returns-in-Err-Failed-clause-reply g c =

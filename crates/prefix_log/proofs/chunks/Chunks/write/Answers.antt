@@ -14,10 +14,10 @@ returns-clause-written c =
     let chunks = ap (λ (v : Store). v.chunks) c.self.view_is in
     let count = ap (λ (v : Store). v.sealed) c.self.view_is in
     let long = ap length chunks in
-    let all = all_count (map arc_value s.sealed.items) s.open.items in
-    let le : length (map arc_value s.sealed.items) ≤ c.args.place / 64 = omega (arith, size, count, c.requires.open) in
-    let lt : c.args.place / 64 < length (map arc_value s.sealed.items) + length s.open.items = omega (arith, long, all, c.requires.there) in
-    let behind : c.len.result + c.len-2.result - 1 - c.args.place / 64 ≡ length (map arc_value s.sealed.items) + length s.open.items - 1 - c.args.place / 64 = omega (arith, size, c.len.ensures, c.len-2.ensures) in
-    let there : c.len.result + c.len-2.result - 1 - c.args.place / 64 < length s.open.items = omega (arith, size, behind, le, lt) in
-    open_written_at c.args.widths.now c.args.place (c.len.result + c.len-2.result - 1 - c.args.place / 64) c.args.piece.now.cells.first c.args.piece.now.cells.second (map arc_value s.sealed.items) s.open.items _ c.write.new.self c.index_mut.result.now le lt behind
-    (c.index_mut.ensures.value ∙ any_default s.open.items (c.len.result + c.len-2.result - 1 - c.args.place / 64) c.index_mut.result.now _ there) chunks c.write.ensures
+    let all = all_count (map arc_value s.sealed.items) s.unsealed.items in
+    let le : length (map arc_value s.sealed.items) ≤ c.args.place / 64 = omega (arith, size, count, c.requires.unsealed) in
+    let lt : c.args.place / 64 < length (map arc_value s.sealed.items) + length s.unsealed.items = omega (arith, long, all, c.requires.there) in
+    let behind : c.len.result + c.len-2.result - 1 - c.args.place / 64 ≡ length (map arc_value s.sealed.items) + length s.unsealed.items - 1 - c.args.place / 64 = omega (arith, size, c.len.ensures, c.len-2.ensures) in
+    let there : c.len.result + c.len-2.result - 1 - c.args.place / 64 < length s.unsealed.items = omega (arith, size, behind, le, lt) in
+    open_written_at c.args.widths.now c.args.place (c.len.result + c.len-2.result - 1 - c.args.place / 64) c.args.piece.now.cells.first c.args.piece.now.cells.second (map arc_value s.sealed.items) s.unsealed.items _ c.write.new.self c.index_mut.result.now le lt behind
+    (c.index_mut.ensures.value ∙ any_default s.unsealed.items (c.len.result + c.len-2.result - 1 - c.args.place / 64) c.index_mut.result.now _ there) chunks c.write.ensures

@@ -16,8 +16,8 @@ returns-then-index-clause-placed c =
     subst (λ (v : Log). v ≡ placed v c.args.place c.args.piece) c.self.view_is
     (sym (taken_is (vec_capacity s.journal) s.prefix s.server s.widths s.capacity s.journal.items s.filled.items s.chunks c.self.invariant.0 c.self.invariant.1 c.args.place c.args.piece there))
 
-pub write-requires-clause-open : goal.write-requires-clause-open
-write-requires-clause-open c =
+pub write-requires-clause-unsealed : goal.write-requires-clause-unsealed
+write-requires-clause-unsealed c =
     let s = c.self.inside in
     let lt : c.args.place < s.capacity = search rules in
     let free : get_or s.filled.items c.args.place false ≡ false = search rules in
