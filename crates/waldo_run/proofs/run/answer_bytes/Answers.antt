@@ -16,6 +16,6 @@ returns-in-Err-clause-answers g c =
 pub returns-in-Ok-clause-answers : goal.returns-in-Ok-clause-answers
 returns-in-Ok-clause-answers g c =
     let command = c.args.command.now in
-    let h = rw c.deref.ensures.value at c.answer_rows.ensures.asked in
+    let h = rw c.deref-in-Ok.ensures.value at c.answer_rows.ensures.asked in
     let is : rows_in (common_in command) c.args.bytes.items ≡ Ok c.in-Ok.rows.items = search rules in
     rows_answers command c.in-Ok.rows.items (rows_in (common_in command) c.args.bytes.items) _ _ h.0 is h.1 c.answer_rows.result h.2 h.3
