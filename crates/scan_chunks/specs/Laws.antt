@@ -1,5 +1,5 @@
 -- Shelves whose rows, one after another, are those of one.
-use Rattle.std.specs.Prelude.{ℕ, ◌≡◌, ◌≤◌, ◌<◌, ◌+◌, ◌*◌, List, [], ◌∷◌, length, All}
+use Rattle.std.specs.Prelude.{ℕ, ◌≡◌, ◌<◌, ◌+◌, ◌*◌, List, [], ◌∷◌, length, All}
 use Rattle.std.specs.List.{flat_map}
 use Rattle.list_facts.specs.Count.{total}
 use Rattle.scan_chunks.specs.Pieces.{chunks_of}

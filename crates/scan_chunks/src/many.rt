@@ -2,7 +2,7 @@ ghost use Rattle.std.specs.Prelude.{◌≡◌, ◌≤◌, ◌++◌, length, IfOk
 ghost use Rattle.std.specs.List.{AllZip, flat_map};
 ghost use Rattle.scan_chunks.specs.Scan.{scan_of, visits_of, VisitsPart};
 
-use crate::scan::scan_one;
+use crate::scan::append_scan;
 use crate::shelf::Shelf;
 use crate::tables::Tables;
 use ring128::{Memory, Words};
@@ -28,8 +28,7 @@ pub fn scan_many<R: Threads + Sync, S: Shelf + Send>(
 {
     let mut numbers = Vec::new(alloc);
     for i in 0..shelves.len() {
-        let scanned = scan_one(alloc, &mut shelves[i], column, tables)?;
-        numbers.extend_from_slice(scanned.as_slice())?;
+        append_scan(&mut numbers, &mut shelves[i], column, tables)?;
     }
     Ok(Words::from_vec(numbers))
 }

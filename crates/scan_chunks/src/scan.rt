@@ -25,16 +25,36 @@ pub fn scan_one<S: Shelf>(
     ensures visits { OnOk result (S.visited shelf.new ≡ S.visited shelf.old ++ visits_of (S.held shelf.old) column) }
     ensures part { OnErr result (VisitsPart (S.visited shelf.old) (S.visited shelf.new) (visits_of (S.held shelf.old) column)) }
 {
+    let mut numbers = Vec::new(alloc);
+    append_scan(&mut numbers, shelf, column, tables)?;
+    Ok(Words::from_vec(numbers))
+}
+
+/// Appends the numbers of a shelf.
+pub(crate) fn append_scan<S: Shelf>(
+    numbers: &mut Vec<u128>,
+    shelf: &mut S,
+    column: u8,
+    tables: &Tables,
+) -> Result<(), Memory>
+    requires column { column ≤ (S.held shelf.old).columns }
+    requires zero { length tables.now.zero ≡ (S.held shelf.old).width column }
+    requires one { length tables.now.one ≡ (S.held shelf.old).width column }
+    ensures held { S.held shelf.new ≡ S.held shelf.old }
+    ensures numbers { OnOk result (numbers.new.items ≡ numbers.old.items ++ scan_of (S.held shelf.old) column tables.now.zero tables.now.one) }
+    ensures visits { OnOk result (S.visited shelf.new ≡ S.visited shelf.old ++ visits_of (S.held shelf.old) column) }
+    ensures part { OnErr result (VisitsPart (S.visited shelf.old) (S.visited shelf.new) (visits_of (S.held shelf.old) column)) }
+{
     let rows = shelf.rows() as usize;
     let start = shelf.first();
     let width = shelf.width(column) as usize;
-    let mut numbers = Vec::with_capacity(alloc, rows)?;
+    numbers.reserve(rows)?;
     for c in 0..rows.div_ceil(64) {
         let lent = shelf.chunk(start + c as u32, column)?;
         let count = 64.min(rows - 64 * c);
-        scan_chunk(&mut numbers, &lent, count, width, tables);
+        scan_chunk(numbers, &lent, count, width, tables);
     }
-    Ok(Words::from_vec(numbers))
+    Ok(())
 }
 
 // Appends a number for each row of a chunk.

@@ -1,8 +1,8 @@
-use Rattle.std.proofs.Common.{rules, arith, ◌≡◌, ◌∙◌, ◌+◌, ◌-◌, ◌*◌, ◌<◌, ◌≤◌, min}
+use Rattle.std.proofs.Common.{rules, arith, ap, append_assoc, List, ℕ, ◌++◌, ◌≡◌, ◌∙◌, ◌+◌, ◌-◌, ◌*◌, ◌<◌, ◌≤◌, min}
 use Rattle.scan_chunks.specs.Pieces.{chunks_of}
 use Rattle.scan_chunks.proofs.Chunks.{chunk_long, scanned_more}
 use Rattle.scan_chunks.proofs.Visits.{stopped, visited_more}
-use Rattle.scan_chunks.proofs.scan.scan_one.Goals as goal
+use Rattle.scan_chunks.proofs.scan.append_scan.Goals as goal
 
 pub returns-in_err-lent-clause-part : goal.returns-in_err-lent-clause-part
 returns-in_err-lent-clause-part g c =
@@ -45,9 +45,10 @@ loop-c-preserved g c =
       start = i.start;
       width = i.width;
       numbers =
-          rw (c.scan_chunk.ensures.numbers, i.numbers, c.in_ok-lent.ensures.first, c.in_ok-lent.ensures.second, i.held, i.start, at, count, i.rows, i.width)
-          (scanned_more c.args.tables.now.zero c.args.tables.now.one (h.width c.args.column) c.loop-c.c h.rows (h.pieces.first c.args.column) (h.pieces.second c.args.column) below);
+          rw (c.scan_chunk.ensures.numbers, i.numbers, c.in_ok-lent.ensures.first, c.in_ok-lent.ensures.second, i.held, i.start, at, count, i.rows, i.width, append_assoc)
+          (ap (λ (l : List ℕ). c.args.numbers.now.items ++ l)
+          (scanned_more c.args.tables.now.zero c.args.tables.now.one (h.width c.args.column) c.loop-c.c h.rows (h.pieces.first c.args.column) (h.pieces.second c.args.column) below));
       length = omega (arith, c.scan_chunk.ensures.length, i.length, count, i.rows, below);
-      room = rw (c.scan_chunk.ensures.room, i.room);
+      room = omega (arith, c.scan_chunk.ensures.room, i.room);
       visits = visited_more h c.args.column c.loop-c.c _ _ _ i.visits (rw (i.start) at went);
     }
