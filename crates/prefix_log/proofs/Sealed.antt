@@ -4,7 +4,7 @@ use Rattle.std.proofs.lemmas.Bool.{cases_lt}
 use Rattle.std.proofs.lemmas.List.{length-append, length-reverse, length-set, length_push, get_or_append_left, get_or-append_right, get_or_past, get_or_push, get_or-reverse, get_or-set_same, get_or-set_other}
 use Rattle.table_schema.specs.declared.widths.Widths.{Widths}
 use Rattle.scan_chunks.specs.Pieces.{chunks_of}
-use Rattle.prefix_log.specs.Chunks.{AreFirst, Halves, HalvesWritten, HasRoom, HasRows, HavePlaces, HaveRows, IsCopy, PlaceWritten, RowWritten, chunk_at, halves_at}
+use Rattle.prefix_log.specs.Chunks.{AreFirst, Halves, HalvesWritten, HasRows, HaveRows, IsCopy, PlaceWritten, RowWritten, chunk_at, halves_at}
 use Rattle.prefix_log.proofs.Cuts.{chunk_rows}
 
 -- ---- columns
@@ -124,18 +124,6 @@ module _ (w : Widths) (rows : ℕ) (sealed rest : List (List Halves)) (are : len
       }
 
 -- ---- free chunks
-
--- chunks with room, the last one first, are places in order
-pub free_places : (w : Widths) (capacity count : ℕ) (rest : List (List Halves)) → count ≡ chunks_of capacity → length rest ≡ count
-    → ((k : ℕ) → k < count → HasRoom w (min 64 (capacity - 64 * (count - 1 - k))) (get_or rest k [])) → HavePlaces w capacity (reverse rest)
-free_places w capacity count rest is long room = record {
-  count = length-reverse rest ∙ long ∙ is;
-  room = λ j lt.
-      let below : j < length rest = omega (arith, length-reverse rest) in
-      let back : count - 1 - (length rest - 1 - j) ≡ j = omega arith in
-      subst (HasRoom w (min 64 (capacity - 64 * j))) (sym (get_or-reverse rest j [] below))
-      (subst (λ (i : ℕ). HasRoom w (min 64 (capacity - 64 * i)) (get_or rest (length rest - 1 - j) [])) back (room (length rest - 1 - j) (omega arith)));
-}
 
 pub free_more : (P : ℕ → List Halves → Type 0) (n : ℕ) (xs ys : List (List Halves)) (x : List Halves) → ys ≡ xs ++ x ∷ [] → length xs ≡ n → ((k : ℕ) → k < n → P k (get_or xs k [])) → P n x
     → (k : ℕ) → k < n + 1 → P k (get_or ys k [])

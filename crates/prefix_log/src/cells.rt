@@ -95,7 +95,8 @@ fn append(cells: &mut Vec<u128>, part: &[u128])
     let _ = cells.extend_from_slice(part);
 }
 
-// Writes a part anywhere else.
+// Writes a part anywhere else. Rows seldom come so.
+#[cold]
 fn overwrite(cells: &mut Vec<u128>, start: usize, part: &[u128])
     requires { start + length part.now ≤ vec_capacity cells.old }
     ensures written { IsWritten start part.now cells.old.items cells.new.items }

@@ -41,13 +41,15 @@ impl Chunks {
         ensures places { IfOk result (λ s. HavePlaces widths.now capacity s.chunks) }
     {
         let count = capacity.div_ceil(64);
+        let mut unsealed = free_chunks(alloc, widths, capacity, count)?;
+        unsealed.as_mut_slice().reverse();
         Ok(Chunks {
             sealed: Vec::with_capacity(alloc, count as usize)?,
-            unsealed: free_chunks(alloc, widths, capacity, count)?,
+            unsealed,
         })
     }
 
-    // Writes the cells of a piece at a place of an open chunk. It takes no memory.
+    // Writes the cells of a piece at a place of a chunk that is not sealed. It takes no memory.
     pub fn write(&mut self, widths: &Widths, place: u64, piece: &Piece)
         requires unsealed { 64 * self.old.sealed ≤ place }
         requires there { place / 64 < length self.old.chunks }
@@ -121,7 +123,7 @@ impl Chunks {
     }
 }
 
-// Open chunks with room for so many rows, the last one first.
+// Chunks with room for so many rows, one behind another in memory, as scans go over them.
 fn free_chunks(
     alloc: Global,
     widths: &Widths,
@@ -130,12 +132,11 @@ fn free_chunks(
 ) -> Result<Vec<Chunk>, Memory>
     requires few { capacity ≤ 65536 }
     requires count { count ≡ chunks_of capacity }
-    ensures { IfOk result (λ c. HavePlaces widths.now capacity (reverse c.items)) }
+    ensures { IfOk result (λ c. HavePlaces widths.now capacity c.items) }
 {
     let mut chunks = Vec::with_capacity(alloc, count as usize)?;
-    for behind in 0..count {
-        let before = 64 * (count - 1 - behind);
-        let rows = 64.min(capacity - before) as usize;
+    for c in 0..count {
+        let rows = 64.min(capacity - 64 * c) as usize;
         chunks.push(Chunk::new(alloc, widths, rows)?)?;
     }
     Ok(chunks)

@@ -23,7 +23,7 @@ pub struct ServerLog {
     server: u8,
     widths: Widths,
     capacity: u32,
-    journal: Vec<u32>,
+    journal: Vec<u16>, // a place is below 65,536
     filled: Vec<bool>,
     chunks: Chunks,
     prefix: u64,
@@ -79,7 +79,7 @@ impl ServerLog {
         }
         self.chunks.write(&self.widths, place, &piece);
         self.filled[place as usize] = true;
-        self.journal.push_reserved(place as u32);
+        self.journal.push_reserved(place as u16);
         self.prefix = first_gap(self.filled.as_slice(), self.prefix as usize) as u64;
     }
 

@@ -2,8 +2,8 @@ use Rattle.std.proofs.Common.{◌≡◌, ◌-◌, ◌*◌, ◌<◌, ℕ, [], len
 use Rattle.prefix_log.specs.Chunks.{HasRoom}
 use Rattle.prefix_log.proofs.chunks.free_chunks.Given as goal
 
-abbrev pub invariant-loop-behind : goal.invariant-loop-behind
-invariant-loop-behind l = record {
-  count : length l.chunks.items ≡ l.behind;
-  room : (k : ℕ) → k < l.behind → HasRoom l.widths (min 64 (l.capacity - 64 * (l.count - 1 - k))) (get_or l.chunks.items k []);
+abbrev pub invariant-loop-c : goal.invariant-loop-c
+invariant-loop-c l = record {
+  count : length l.chunks.items ≡ l.c;
+  room : (k : ℕ) → k < l.c → HasRoom l.widths (min 64 (l.capacity - 64 * k)) (get_or l.chunks.items k []);
 }
