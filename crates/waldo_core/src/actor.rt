@@ -46,7 +46,7 @@ impl ActorState {
         ensures { self.new ≡ record { floor = self.old.floor; draw = Some draw; snapshots = Snapshots.Unfixed } }
     {
         self.draw = Some(draw);
-        self.snapshots = Snapshots::Unfixed; // an agreement ends here
+        self.snapshots.clear(); // an agreement ends here
     }
 
     /// Places the piece of the open draw at a server, unless it was placed there before.
@@ -74,7 +74,7 @@ impl ActorState {
         ensures left { IfSome self.new.draw (λ d. self.old.draw ≡ Some d) }
         ensures unfixed { self.new.snapshots ≡ Snapshots.Unfixed }
     {
-        self.snapshots = Snapshots::Unfixed;
+        self.snapshots.clear();
         let Some(draw) = &self.draw else {
             return;
         };
@@ -93,7 +93,7 @@ impl ActorState {
         }
         let prefix = logs.prefix(server);
         self.floor = self.floor.max(prefix);
-        self.snapshots = Snapshots::Unfixed;
+        self.snapshots.clear();
         Some(Reply::Looked { prefix })
     }
 
@@ -107,7 +107,7 @@ impl ActorState {
         let had = logs.prefix(server);
         let floor = self.floor;
         if had < floor {
-            self.snapshots = Snapshots::Unfixed;
+            self.snapshots.clear();
             return Ok(Reply::Again { server, had, floor });
         }
         let snapshot = logs.fix(alloc, server)?;

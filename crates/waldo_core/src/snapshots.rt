@@ -73,6 +73,15 @@ impl Snapshots {
         }
     }
 
+    /// Lets go of what was found.
+    pub(crate) fn clear(&mut self)
+        ensures { self.new ≡ Snapshots.Unfixed }
+    {
+        if !matches!(self, Snapshots::Unfixed) {
+            *self = Snapshots::Unfixed;
+        }
+    }
+
     /// The server of the next fix.
     pub(crate) fn next_server(&self) -> u8
         ensures { result ≡ next_server_of self.now }
