@@ -3,13 +3,13 @@
 # How to read it: "read" is an input whose last record is refused, so it is read and turned into rows and no more. What a
 # query costs beside it is sharing, keys, scans, zero parts, products and openings of both runs; what a predicate more
 # costs is the difference of two lines. bench/phases.sh tells the phases of one run apart.
-# Both run the program itself, without the launcher, which asks for large pages: with GLIBC_TUNABLES=glibc.malloc.hugetlb=1 before
-# them they time it so.
+# The program is run as the launcher runs it, with large pages; GLIBC_TUNABLES= before a script times it without.
 # Usage: bench/ask.sh [RUNS]
 set -eu
 home=$(dirname "$(readlink -f "$0")")/..
 program=$home/crates/waldo_cli/out/waldo_cli
 runs=${1:-3}
+export GLIBC_TUNABLES=${GLIBC_TUNABLES-glibc.malloc.hugetlb=1}
 input=$(mktemp)
 trap 'rm -f "$input"' EXIT
 

@@ -7,6 +7,7 @@ set -eu
 home=$(dirname "$(readlink -f "$0")")/..
 program=$home/crates/waldo_cli/out/waldo_cli
 input=$1; shift
+export GLIBC_TUNABLES=${GLIBC_TUNABLES-glibc.malloc.hugetlb=1}
 data=$(mktemp)
 trap 'rm -f "$data"' EXIT
 perf record -q -F 5000 -o "$data" "$program" "$@" < "$input"
