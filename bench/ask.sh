@@ -9,7 +9,7 @@ set -eu
 home=$(dirname "$(readlink -f "$0")")/..
 program=$home/crates/waldo_cli/out/waldo_cli
 runs=${1:-3}
-export GLIBC_TUNABLES=${GLIBC_TUNABLES-glibc.malloc.hugetlb=1}
+export GLIBC_TUNABLES=${GLIBC_TUNABLES-glibc.malloc.hugetlb=1:glibc.malloc.top_pad=33554432}
 input=$(mktemp)
 trap 'rm -f "$input"' EXIT
 

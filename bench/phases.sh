@@ -7,7 +7,7 @@ set -eu
 home=$(dirname "$(readlink -f "$0")")/..
 program=$home/crates/waldo_cli/out/waldo_cli
 input=$1; shift
-export GLIBC_TUNABLES=${GLIBC_TUNABLES-glibc.malloc.hugetlb=1}
+export GLIBC_TUNABLES=${GLIBC_TUNABLES-glibc.malloc.hugetlb=1:glibc.malloc.top_pad=33554432}
 data=$(mktemp)
 trap 'rm -f "$data"' EXIT
 perf record -q -F 5000 -o "$data" "$program" "$@" < "$input"
