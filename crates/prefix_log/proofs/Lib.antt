@@ -1,3 +1,5 @@
+pub mod Appended
+pub mod Filled
 pub mod Columns
 pub mod Cuts
 pub mod Fixed
@@ -11,4 +13,5 @@ pub mod Placings
 pub mod Ranges
 pub mod Sealed
 pub mod Stored
+pub mod Whole
 pub mod Written

@@ -10,13 +10,13 @@ use Rattle.prefix_log.specs.Chunks.{Halves, HasRoom, HasRows, HavePlaces, IsStor
 use Rattle.prefix_log.proofs.Columns.{cells_wide}
 
 -- a chunk in which a row was written has room and rows as before
-row_room : (w : Widths) (n row : ℕ) (first second : List ℕ) (old new : List Halves) → RowWritten w row first second old new → HasRoom w n old → HasRoom w n new
+pub row_room : (w : Widths) (n row : ℕ) (first second : List ℕ) (old new : List Halves) → RowWritten w row first second old new → HasRoom w n old → HasRoom w n new
 row_room w n row first second old new is has = record {
   columns = is.columns ∙ has.columns;
   room = λ column le. omega (arith, has.room column le, (is.each column le).room);
 }
 
-row_rows : (w : Widths) (n row : ℕ) (first second : List ℕ) (old new : List Halves) → RowWritten w row first second old new → HasRows w n old → HasRows w n new
+pub row_rows : (w : Widths) (n row : ℕ) (first second : List ℕ) (old new : List Halves) → RowWritten w row first second old new → HasRows w n old → HasRows w n new
 row_rows w n row first second old new is has = record {
   columns = is.columns ∙ has.columns;
   first = λ column le. omega (arith, has.first column le, (is.each column le).first.longer);
@@ -24,7 +24,7 @@ row_rows w n row first second old new is has = record {
 }
 
 -- and the row that was written
-row_there : (w : Widths) (row : ℕ) (first second : List ℕ) (old new : List Halves) → RowWritten w row first second old new → length old ≡ w.columns + 1
+pub row_there : (w : Widths) (row : ℕ) (first second : List ℕ) (old new : List Halves) → RowWritten w row first second old new → length old ≡ w.columns + 1
     → length first ≡ code_length (column_bits w) → length second ≡ code_length (column_bits w) → HasRows w (row + 1) new
 row_there w row first second old new is count long also = record {
   columns = is.columns ∙ count;

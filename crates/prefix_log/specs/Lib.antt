@@ -1,3 +1,4 @@
+pub mod Bulk
 pub mod Chunks
 pub mod Journal
 pub mod Laws

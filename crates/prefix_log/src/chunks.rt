@@ -1,16 +1,20 @@
 //! The cells of all places, by chunks of 64.
-ghost use Rattle.std.specs.Prelude.{◌≡◌, ◌+◌, ◌*◌, ◌/◌, ◌%◌, ◌<◌, ◌≤◌, IfOk, OnOk, OnErr, length, map, reverse};
+ghost use Rattle.std.specs.Prelude.{◌≡◌, ◌+◌, ◌*◌, ◌/◌, ◌%◌, ◌<◌, ◌≤◌, IfOk, OnOk, OnErr, length, map, reverse, All};
 ghost use Rattle.std.specs.Arc.{arc_value};
 ghost use Rattle.onehot_column.specs.Piece.{HasWidths};
 ghost use Rattle.scan_chunks.specs.Pieces.{chunks_of};
+ghost use Rattle.table_schema.specs.Widths.{Holds};
+ghost use Rattle.prefix_log.specs.Bulk.{HasPieces, IsFree};
 ghost use Rattle.prefix_log.specs.Chunks.{AreFirst, HasRoom, HaveRows, HavePlaces, PlaceWritten, chunk_at};
 
+use crate::bulk::{Entry, fill_lists};
 use crate::chunk::Chunk;
 use onehot_column::Piece;
 use ring128::Memory;
 use std::alloc::Global;
 use std::marker::Model;
 use std::sync::Arc;
+use std::thread::Threads;
 use table_schema::Widths;
 
 // The first chunks are sealed: they are shared with snapshots and stay as they are. The others are not sealed yet, the last one
@@ -155,4 +159,41 @@ pub(crate) fn shared(
         again.push(Arc::try_clone(chunk)?)?;
     }
     Ok(again)
+}
+
+// Writes the pieces of as many rows as there are places into the chunks of three servers, by so many workers. The only error is want
+// of memory.
+pub(crate) fn fill_three<R: Threads + Sync>(
+    rt: &R,
+    alloc: Global,
+    widths: &Widths,
+    entries: &[Entry],
+    workers: usize,
+    zero: &mut Chunks,
+    one: &mut Chunks,
+    two: &mut Chunks,
+) -> Result<(), Memory>
+    requires some { 0 < workers }
+    requires held { All (λ e. Holds widths.now e.row) entries.now }
+    requires small { length entries.now ≤ 65536 }
+    requires zero { IsFree widths.now (length entries.now) zero.old }
+    requires one { IsFree widths.now (length entries.now) one.old }
+    requires two { IsFree widths.now (length entries.now) two.old }
+    ensures zero { IsFree widths.now (length entries.now) zero.new }
+    ensures one { IsFree widths.now (length entries.now) one.new }
+    ensures two { IsFree widths.now (length entries.now) two.new }
+    ensures zero_pieces { OnOk result (HasPieces widths.now 0 entries.now zero.new.chunks) }
+    ensures one_pieces { OnOk result (HasPieces widths.now 1 entries.now one.new.chunks) }
+    ensures two_pieces { OnOk result (HasPieces widths.now 2 entries.now two.new.chunks) }
+{
+    fill_lists(
+        rt,
+        alloc,
+        widths,
+        entries,
+        workers,
+        &mut zero.unsealed,
+        &mut one.unsealed,
+        &mut two.unsealed,
+    )
 }

@@ -19,6 +19,7 @@
 //! ```
 #![tactic(auto)]
 
+mod bulk;
 mod cells;
 mod chunk;
 mod chunks;
@@ -30,9 +31,10 @@ mod log;
 mod rows;
 mod snapshot;
 
+pub use bulk::Entry;
 pub use fault::OpenFault;
 pub use journal::prefix_of;
-pub use log::ServerLog;
+pub use log::{ServerLog, append_rows};
 pub use snapshot::Snapshot;
 
 #[cfg(test)]

@@ -1,10 +1,13 @@
-ghost use Rattle.std.specs.Prelude.{◌≡◌, ◌<◌, IfOk, [], take};
-ghost use Rattle.table_schema.specs.Widths.{Fits, column_bits};
+ghost use Rattle.std.specs.Prelude.{◌≡◌, ℕ, ◌<◌, ◌≤◌, false, nat_lt, if◌then◌else◌, All, IfOk, OnErr, OnOk, [], length, slice_index_or, take, vec_capacity};
+ghost use Rattle.std.specs.List.{range_with_len};
+ghost use Rattle.table_schema.specs.Widths.{Fits, Holds, column_bits};
+ghost use Rattle.prefix_log.specs.Bulk.{TakesRows};
 ghost use Rattle.prefix_log.specs.Journal.{IsPrefixOf};
 ghost use Rattle.prefix_log.specs.Logs.{IsLog, IsOwn, empty_log, placed};
 ghost use Rattle.prefix_log.specs.Snapshots.{HoldsPieces, pieces_in};
 
-use crate::chunks::Chunks;
+use crate::bulk::Entry;
+use crate::chunks::{Chunks, fill_three};
 use crate::journal::first_gap;
 use crate::snapshot::Snapshot;
 use onehot_column::Piece;
@@ -12,6 +15,7 @@ use ring128::Memory;
 use scan_chunks::Shelf;
 use std::alloc::Global;
 use std::marker::Model;
+use std::thread::Threads;
 use table_schema::Widths;
 
 /// What a server has of a table: the pieces that came to its places, and the order in which the places were filled.
@@ -105,4 +109,74 @@ impl ServerLog {
         let chunks = self.chunks.first(alloc, &self.widths, rows)?;
         Ok(Snapshot::new(alloc, self.widths, rows, 0, chunks))
     }
+}
+
+/// Puts the pieces of rows into the logs of servers 0, 1 and 2 by so many workers: row i at place i, split by its own seed. The logs
+/// have no pieces yet, and as many places as there are rows. The only error is want of memory; the logs then stay without pieces.
+pub fn append_rows<R: Threads + Sync>(
+    rt: &R,
+    alloc: Global,
+    widths: &Widths,
+    entries: &[Entry],
+    workers: usize,
+    zero: &mut ServerLog,
+    one: &mut ServerLog,
+    two: &mut ServerLog,
+) -> Result<(), Memory>
+    requires some { 0 < workers }
+    requires small { length entries.now ≤ 65536 }
+    requires held { All (λ e. Holds widths.now e.row) entries.now }
+    requires zero { zero.old ≡ empty_log 0 widths.now (length entries.now) }
+    requires one { one.old ≡ empty_log 1 widths.now (length entries.now) }
+    requires two { two.old ≡ empty_log 2 widths.now (length entries.now) }
+    ensures zero { OnOk result (TakesRows widths.now 0 entries.now zero.new) }
+    ensures one { OnOk result (TakesRows widths.now 1 entries.now one.new) }
+    ensures two { OnOk result (TakesRows widths.now 2 entries.now two.new) }
+    ensures zero_stays { OnErr result (zero.new ≡ zero.old) }
+    ensures one_stays { OnErr result (one.new ≡ one.old) }
+    ensures two_stays { OnErr result (two.new ≡ two.old) }
+{
+    let result = fill_three(
+        rt,
+        alloc,
+        widths,
+        entries,
+        workers,
+        &mut zero.chunks,
+        &mut one.chunks,
+        &mut two.chunks,
+    );
+    let count = all_or_none(result.is_ok(), entries.len());
+    mark(&mut zero.journal, &mut zero.filled, count);
+    zero.prefix = count as u64;
+    mark(&mut one.journal, &mut one.filled, count);
+    one.prefix = count as u64;
+    mark(&mut two.journal, &mut two.filled, count);
+    two.prefix = count as u64;
+    result
+}
+
+// Marks the first places as filled in their order, where none was.
+fn mark(journal: &mut Vec<u16>, filled: &mut Vec<bool>, count: usize)
+    requires none { journal.old.items ≡ [] }
+    requires room { count ≤ vec_capacity journal.old }
+    requires there { count ≤ length filled.old.items }
+    requires few { count ≤ 65536 }
+    requires free { (place : ℕ) → slice_index_or filled.old.items place false ≡ false }
+    ensures journal { journal.new.items ≡ range_with_len 0 count }
+    ensures room { vec_capacity journal.new ≡ vec_capacity journal.old }
+    ensures length { length filled.new.items ≡ length filled.old.items }
+    ensures filled { (place : ℕ) → slice_index_or filled.new.items place false ≡ nat_lt place count }
+{
+    for i in 0..count {
+        journal.push_reserved(i as u16);
+        filled[i] = true;
+    }
+}
+
+// All, or none.
+fn all_or_none(done: bool, all: usize) -> usize
+    ensures { result ≡ (if done then all else 0) }
+{
+    if done { all } else { 0 }
 }

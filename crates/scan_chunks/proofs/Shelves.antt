@@ -1,11 +1,13 @@
 -- Shelves, one after another.
-use Rattle.std.proofs.Common.{◌≡◌, ◌∙◌, sym, ap, subst, ℕ, ◌+◌, ◌<◌, List, [], ◌∷◌, ◌++◌, length, take, drop, get_or, slice_set, Result, Ok, Err, OnErr, OnOk, add-one, append-nil, arith}
+use Rattle.std.proofs.Common.{◌≡◌, ◌∙◌, refl, sym, ap, subst, ℕ, ◌+◌, ◌<◌, List, [], ◌∷◌, ◌++◌, length, take, drop, get_or, slice_set, Result, Ok, Err, IfOk, OnErr, OnOk, add-one, append-nil, arith}
 use Rattle.std.specs.List.{AllZip, flat_map}
+use Rattle.ring128.specs.declared.memory.Memory.{Memory}
 use Rattle.std.proofs.Math.Seq.{take-length}
 use Rattle.std.proofs.lemmas.List.{take_more, take_more_set, take-append-drop, drop-set-lt, set_split, drop_more, get_or-drop}
 use Rattle.std.proofs.lemmas.List.Elements.{AllZip-push}
 use Rattle.std.proofs.lemmas.Grind.{flat_map-append, drop_more_same}
 use Rattle.scan_chunks.specs.Shelf.{Held}
+use Rattle.scan_chunks.specs.Halves.{AreJoined, Scans}
 use Rattle.scan_chunks.specs.Scan.{visits_of, VisitsPart}
 use Rattle.scan_chunks.specs.declared.visit.Visit.{Visit}
 
@@ -77,3 +79,37 @@ on_err (Err e) P p = p
 pub on_ok : {T E : Type 0} (r : Result T E) (P : Type 0) → P → OnOk r P
 on_ok (Ok x) P p = p
 on_ok (Err e) P p = tt
+
+-- whatever a scan came to, the visits are the first ones
+visits_part : {S : Type 0} (held : S → Held) (visited : S → List Visit) (column : ℕ) (zero one : List ℕ) (old new : List S) (r : Result (List ℕ) Memory)
+    → Scans held visited column zero one old new r → AllZip (λ s t. VisitsPart (visited s) (visited t) (visits_of (held s) column)) old new
+visits_part held visited column zero one old new (Ok w) scans =
+    zip_weaker (λ s t. visited t ≡ visited s ++ visits_of (held s) column) (λ s t. VisitsPart (visited s) (visited t) (visits_of (held s) column))
+    (λ s t e. part_whole (visited s) (visited t) (visits_of (held s) column) e) old new scans.visits
+visits_part held visited column zero one old new (Err e) scans = scans.part
+
+-- the scans of two lists of shelves, from which these numbers were joined
+pub scans_joined : {S : Type 0} (held : S → Held) (visited : S → List Visit) (column : ℕ) (zero one : List ℕ) (old new old' new' : List S) (a b r : Result (List ℕ) Memory)
+    → Scans held visited column zero one old new a → Scans held visited column zero one old' new' b → IfOk r (AreJoined a b)
+    → Scans held visited column zero one (old ++ old') (new ++ new') r
+scans_joined held visited column zero one old new old' new' a b (Err e) scans scans' joined = record {
+  same = zip_append (λ s t. held t ≡ held s) old new old' new' scans.same scans'.same;
+  numbers = tt;
+  visits = tt;
+  part =
+      zip_append (λ s t. VisitsPart (visited s) (visited t) (visits_of (held s) column)) old new old' new'
+      (visits_part held visited column zero one old new a scans) (visits_part held visited column zero one old' new' b scans');
+}
+scans_joined held visited column zero one old new old' new' a b (Ok w) scans scans' joined =
+    let xs = joined.0 in
+    let ys = joined.1 in
+    let P : Result (List ℕ) Memory → Type 0 = λ r. Scans held visited column zero one old new r in
+    let Q : Result (List ℕ) Memory → Type 0 = λ r. Scans held visited column zero one old' new' r in
+    let front : Scans held visited column zero one old new (Ok xs) = subst P joined.2 scans in
+    let back : Scans held visited column zero one old' new' (Ok ys) = subst Q joined.3 scans' in
+    record {
+      same = zip_append (λ s t. held t ≡ held s) old new old' new' scans.same scans'.same;
+      numbers = rw (joined.4, front.numbers, back.numbers, flat_map-append) refl;
+      visits = zip_append (λ s t. visited t ≡ visited s ++ visits_of (held s) column) old new old' new' front.visits back.visits;
+      part = tt;
+    }

@@ -1,4 +1,5 @@
 pub mod Columns
+pub mod Halves
 pub mod Laws
 pub mod Pieces
 pub mod Scan

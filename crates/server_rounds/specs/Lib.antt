@@ -1,3 +1,4 @@
+pub mod AtOnce
 pub mod Groups
 pub mod Rounds
 pub mod Shelves

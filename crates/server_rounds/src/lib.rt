@@ -18,6 +18,7 @@
 //! ```
 #![tactic(auto)]
 
+mod at_once;
 mod bits;
 mod carry;
 mod held;

@@ -45,9 +45,9 @@ pub(crate) fn bits_part<R: Threads + Sync, S: Shelf + Send>(
     alloc: Global,
     plan: &Plan,
     keys: &ServerKeys,
-    shelves: &mut Vec<S>,
     run: u8,
     j: u8,
+    shelves: &mut Vec<S>,
 ) -> Result<Words, Memory>
     requires run { run < 2 }
     requires j { j < count_of plan.now }
@@ -129,9 +129,9 @@ pub(crate) fn opening_part<S: Shelf>(
     alloc: Global,
     plan: &Plan,
     keys: &ServerKeys,
-    shelves: &mut Vec<S>,
     chain: &PairList,
     run: u8,
+    shelves: &mut Vec<S>,
 ) -> Result<Words, Memory>
     requires run { run < 2 }
     requires chain { length chain.now.first ≡ plan.now.rows }

@@ -8,10 +8,11 @@ ghost use Rattle.server_rounds.specs.Plans.{HaveTables, views_of};
 ghost use Rattle.server_rounds.specs.Rounds.{IsOpened, bits_of, products_of, openings_of};
 ghost use Rattle.server_rounds.specs.Shelves.{AreShelves, pieces_of};
 
+use crate::at_once::bits_at_once;
 use crate::carry::{Trio, carry_three};
 use crate::held::{Held, reshare};
 use crate::keys::ThreeKeys;
-use crate::part::{bits_part, opening_part, product_part};
+use crate::part::{opening_part, product_part};
 use crate::plan::Plan;
 use crate::servers::Servers;
 use crate::way::Way;
@@ -48,9 +49,20 @@ pub(crate) fn bits_round<R: Threads + Sync, S: Shelf + Send, W: Wire>(
         × IsGroup Way.Around (bits_of plan.now run (views_of keys.now) pieces j) ms
         × IfOk result (λ held. AreReshared held ms) }
 {
-    let zero = bits_part(rt, alloc, plan, &keys.zero, &mut shelves.zero, run, j)?;
-    let one = bits_part(rt, alloc, plan, &keys.one, &mut shelves.one, run, j)?;
-    let two = bits_part(rt, alloc, plan, &keys.two, &mut shelves.two, run, j)?;
+    let (zero, (one, two)) = bits_at_once(
+        rt,
+        alloc,
+        plan,
+        keys,
+        run,
+        j,
+        &mut shelves.zero,
+        &mut shelves.one,
+        &mut shelves.two,
+    );
+    let zero = zero?;
+    let one = one?;
+    let two = two?;
     let held = reshare(alloc, wire, Trio { zero, one, two })?;
     Ok(held)
 }
@@ -124,12 +136,12 @@ pub(crate) fn opening_round<S: Shelf, W: Wire>(
         alloc,
         plan,
         &keys.zero,
-        &mut shelves.zero,
         chain.zero(),
         run,
+        &mut shelves.zero,
     )?;
-    let one = opening_part(alloc, plan, &keys.one, &mut shelves.one, chain.one(), run)?;
-    let two = opening_part(alloc, plan, &keys.two, &mut shelves.two, chain.two(), run)?;
+    let one = opening_part(alloc, plan, &keys.one, chain.one(), run, &mut shelves.one)?;
+    let two = opening_part(alloc, plan, &keys.two, chain.two(), run, &mut shelves.two)?;
     let total = opened(wire, Trio { zero, one, two })?;
     Ok(total)
 }

@@ -1,11 +1,13 @@
 pub mod Accepted
 pub mod Acts
 pub mod Answering
+pub mod Appending
 pub mod Begun
 pub mod Drawn
 pub mod Elements
 pub mod Fixing
 pub mod Grown
+pub mod InRows
 pub mod Journals
 pub mod Legal
 pub mod Looked

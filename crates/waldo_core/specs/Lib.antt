@@ -1,6 +1,7 @@
 pub mod Answers
 pub mod Core
 pub mod Held
+pub mod InBulk
 pub mod Laws
 pub mod Legal
 pub mod Machines

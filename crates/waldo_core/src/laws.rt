@@ -1,5 +1,6 @@
 //! What the definitions say together, as functions without effect.
 
+ghost use Rattle.waldo_core.specs.InBulk.{RowsLead};
 ghost use Rattle.waldo_core.specs.Laws.{LegalStays, PrefixIsLargest};
 
 /// The prefix of a journal is the largest number such that each place below it is there.
@@ -10,4 +11,9 @@ pub fn prefix_is_largest()
 /// A core in which nothing was drawn is legal, and every step keeps a legal core legal.
 pub fn legal_stays()
     ensures { LegalStays }
+{}
+
+/// Rows that are appended one after another in a core in which nothing was drawn lead to the core that has them all.
+pub fn rows_lead()
+    ensures { RowsLead }
 {}

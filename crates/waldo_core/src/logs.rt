@@ -1,16 +1,19 @@
 //! The logs of the three servers.
-ghost use Rattle.std.specs.Prelude.{◌≡◌, ◌<◌, IfOk};
+ghost use Rattle.std.specs.Prelude.{◌≡◌, ◌<◌, ◌≤◌, All, IfOk, OnErr, OnOk, length};
 ghost use Rattle.std.specs.Option.{ForSome};
-ghost use Rattle.table_schema.specs.Widths.{Fits, column_bits};
+ghost use Rattle.table_schema.specs.Widths.{Fits, Holds, column_bits};
+ghost use Rattle.prefix_log.specs.Bulk.{TakesRows};
+ghost use Rattle.waldo_core.specs.InBulk.{IsBlank};
 ghost use Rattle.prefix_log.specs.Logs.{IsLog, IsOwn, empty_log};
 ghost use Rattle.waldo_core.specs.Core.{prefix as prefix_in};
 ghost use Rattle.waldo_core.specs.Held.{IsFixOf, log_of, with_piece};
 
 use onehot_column::Piece;
-use prefix_log::{ServerLog, Snapshot};
+use prefix_log::{Entry, ServerLog, Snapshot, append_rows};
 use ring128::Memory;
 use scan_chunks::Shelf;
 use std::alloc::Global;
+use std::thread::Threads;
 use table_schema::Widths;
 
 /// The logs of servers 0, 1 and 2.
@@ -34,6 +37,41 @@ impl Logs {
             one: ServerLog::new(alloc, 1, widths, capacity)?,
             two: ServerLog::new(alloc, 2, widths, capacity)?,
         })
+    }
+
+    /// Takes as many rows as there are places, in logs without pieces. The only error is want of memory; the logs then stay.
+    pub(crate) fn append_rows<R: Threads + Sync>(
+        &mut self,
+        rt: &R,
+        alloc: Global,
+        widths: &Widths,
+        entries: &[Entry],
+        workers: usize,
+    ) -> Result<(), Memory>
+        requires some { 0 < workers }
+        requires small { length entries.now ≤ 65536 }
+        requires held { All (λ e. Holds widths.now e.row) entries.now }
+        requires zero { IsBlank 0 widths.now (length entries.now) self.old.zero }
+        requires one { IsBlank 1 widths.now (length entries.now) self.old.one }
+        requires two { IsBlank 2 widths.now (length entries.now) self.old.two }
+        ensures zero { OnOk result (TakesRows widths.now 0 entries.now self.new.zero) }
+        ensures one { OnOk result (TakesRows widths.now 1 entries.now self.new.one) }
+        ensures two { OnOk result (TakesRows widths.now 2 entries.now self.new.two) }
+        ensures stays { OnErr result (self.new ≡ self.old) }
+    {
+        self.zero.prefix();
+        self.one.prefix();
+        self.two.prefix();
+        append_rows(
+            rt,
+            alloc,
+            widths,
+            entries,
+            workers,
+            &mut self.zero,
+            &mut self.one,
+            &mut self.two,
+        )
     }
 
     /// How many of the first places a server has.

@@ -1,5 +1,5 @@
 //! The machine.
-ghost use Rattle.std.specs.Prelude.{◌≡◌, ◌≤◌, List, IfOk, IfErr, IfNone, IfSome, IsOk, false, slice_get, Err, None, Ok};
+ghost use Rattle.std.specs.Prelude.{◌≡◌, ◌≤◌, List, All, IfOk, IfErr, IfNone, IfSome, IsOk, OnErr, OnOk, false, length, map, slice_get, Err, None, Ok};
 ghost use Rattle.fault_count.specs.Causes.{Rose};
 ghost use Rattle.list_facts.specs.Listed.{listed};
 ghost use Rattle.table_schema.specs.Widths.{Fits, Holds, column_bits};
@@ -7,6 +7,8 @@ ghost use Rattle.server_rounds.specs.declared.opened.OpenedPair.{OpenedPair};
 ghost use Rattle.wire_line.specs.Messages.{Went};
 ghost use Rattle.wire_line.specs.declared.message.Message.{Message};
 ghost use Rattle.waldo_core.specs.Answers.{IsPlain, IsQuiet, rows_agreed};
+ghost use Rattle.waldo_core.specs.Core.{empty_core};
+ghost use Rattle.waldo_core.specs.InBulk.{core_after, pair_of};
 ghost use Rattle.waldo_core.specs.Legal.{IsLegal};
 ghost use Rattle.waldo_core.specs.Machines.{HasOpenFault, IsHeld, Stepped, new_machine};
 ghost use Rattle.waldo_core.specs.Outcomes.{Quietly, named};
@@ -21,7 +23,7 @@ use crate::logs::Logs;
 use crate::order::Order;
 use crate::snapshots::{Agreement, Snapshots};
 use onehot_column::{RowPieces, pieces};
-use prefix_log::{OpenFault, Snapshot};
+use prefix_log::{Entry, OpenFault, Snapshot};
 use prg_chacha::Seed;
 use query_plan::{Query, make_keys};
 use ring128::Memory;
@@ -106,6 +108,28 @@ impl Machine {
             logs: Logs::new(alloc, widths, capacity)?,
             actors: fresh_actors(alloc)?,
         })
+    }
+
+    /// Takes as many rows as it takes at all, where nothing was drawn: actor 0 draws each and places it at each server, one row after
+    /// another. They are split and written by the machine's workers. The only error is want of memory; the machine is then as before.
+    pub fn append_rows<R: Threads + Sync>(
+        &mut self,
+        rt: &R,
+        alloc: Global,
+        entries: &[Entry],
+    ) -> Result<(), Memory>
+        requires fresh { self.old.core ≡ empty_core }
+        requires all { length entries.now ≡ self.old.capacity }
+        requires held { All (λ e. Holds self.old.widths e.row) entries.now }
+        ensures rows { OnOk result (self.new ≡ record self.old { core = core_after (map pair_of entries.now) }) }
+        ensures stays { OnErr result (self.new ≡ self.old) }
+    {
+        let widths = self.widths;
+        self.logs
+            .append_rows(rt, alloc, &widths, entries, usize::from(self.workers))?;
+        self.order.add_all(entries);
+        self.actors[0].floor = entries.len() as u64;
+        Ok(())
     }
 
     /// Does an event. An event that has no case as things stand is refused; then, and for want of memory, the machine is as

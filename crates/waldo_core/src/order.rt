@@ -1,5 +1,6 @@
 //! The order of draws.
-ghost use Rattle.std.specs.Prelude.{◌≡◌, ◌<◌, ◌≤◌, ◌++◌, ◌∷◌, [], IfOk, IfNone, IfSome, length};
+ghost use Rattle.std.specs.Prelude.{◌≡◌, ◌<◌, ◌≤◌, ◌+◌, ◌++◌, ◌∷◌, [], IfOk, IfNone, IfSome, length, map};
+ghost use Rattle.waldo_core.specs.InBulk.{pair_of};
 
 use prg_chacha::Seed;
 use ring128::Memory;
@@ -49,6 +50,27 @@ impl Order {
         match self.book.draw(&mut self.sight, Entry { row, seed }) {
             Ok(ticket) => Some(ticket.place),
             Err(_) => None,
+        }
+    }
+
+    // Adds a row for which there is room.
+    fn add_one(&mut self, entry: &prefix_log::Entry)
+        requires { length self.old.all < self.old.capacity }
+        ensures { self.new ≡ record self.old { all = self.old.all ++ pair_of entry.now ∷ [] } }
+    {
+        match self.add(entry.row, entry.seed) {
+            Some(_) => {}
+            None => unreachable!(),
+        }
+    }
+
+    /// Adds rows at the end, one after another, where there is room.
+    pub(crate) fn add_all(&mut self, entries: &[prefix_log::Entry])
+        requires { length self.old.all + length entries.now ≤ self.old.capacity }
+        ensures { self.new ≡ record self.old { all = self.old.all ++ map pair_of entries.now } }
+    {
+        for entry in entries {
+            self.add_one(entry);
         }
     }
 }

@@ -1,4 +1,5 @@
 use Rattle.std.proofs.Common.{[], refl, rules}
+use Rattle.std.proofs.lemmas.Result.{IfOk-at_ok}
 use Rattle.wire_line.specs.Carried.{went_none}
 use Rattle.server_rounds.proofs.Messages.{group_none, regroup, three_same}
 use Rattle.server_rounds.proofs.rounds.bits_round.Goals as goal
@@ -18,12 +19,18 @@ returns-in_err-two-clause-messages g c =
 pub returns-in_err-held-clause-messages : goal.returns-in_err-held-clause-messages
 returns-in_err-held-clause-messages g c =
     let h = c.in_err-held.ensures.messages in
-    (h.0, h.1, regroup _ _ _ h.0 h.2 (three_same _ _ c.in_ok-zero.ensures.words c.in_ok-one.ensures.words c.in_ok-two.ensures.words), search rules)
+    let e0 = IfOk-at_ok _ c.in_ok-zero.was c.bits_at_once-zero.ensures.zero.words in
+    let e1 = IfOk-at_ok _ c.in_ok-one.was c.bits_at_once-zero.ensures.one.words in
+    let e2 = IfOk-at_ok _ c.in_ok-two.was c.bits_at_once-zero.ensures.two.words in
+    (h.0, h.1, regroup _ _ _ h.0 h.2 (three_same _ _ e0 e1 e2), search rules)
 
 pub returns-clause-long : goal.returns-clause-long
-returns-clause-long g c = rw c.in_ok-zero.ensures.long at c.in_ok-held.ensures.long
+returns-clause-long g c = rw (IfOk-at_ok _ c.in_ok-zero.was c.bits_at_once-zero.ensures.zero.long) at c.in_ok-held.ensures.long
 
 pub returns-clause-messages : goal.returns-clause-messages
 returns-clause-messages g c =
     let h = c.in_ok-held.ensures.messages in
-    (h.0, h.1, regroup _ _ _ h.0 h.2 (three_same _ _ c.in_ok-zero.ensures.words c.in_ok-one.ensures.words c.in_ok-two.ensures.words), h.3)
+    let e0 = IfOk-at_ok _ c.in_ok-zero.was c.bits_at_once-zero.ensures.zero.words in
+    let e1 = IfOk-at_ok _ c.in_ok-one.was c.bits_at_once-zero.ensures.one.words in
+    let e2 = IfOk-at_ok _ c.in_ok-two.was c.bits_at_once-zero.ensures.two.words in
+    (h.0, h.1, regroup _ _ _ h.0 h.2 (three_same _ _ e0 e1 e2), h.3)

@@ -2,7 +2,7 @@ use Rattle.std.proofs.Common.{◌≡◌, take, drop}
 use Rattle.std.specs.List.{flat_map}
 use Rattle.scan_chunks.specs.Scan.{scan_of}
 use Rattle.scan_chunks.proofs.Shelves.{AreScanned}
-use Rattle.scan_chunks.proofs.many.scan_many.Given as goal
+use Rattle.scan_chunks.proofs.many.scan_in_turn.Given as goal
 
 abbrev pub invariant-loop-i : goal.invariant-loop-i
 invariant-loop-i g l = record {

@@ -2,7 +2,7 @@ use Rattle.std.proofs.Common.{◌≡◌, ◌∙◌, ap, ◌++◌, get_or, take, 
 use Rattle.std.proofs.lemmas.List.{take_all}
 use Rattle.scan_chunks.specs.Scan.{scan_of, visits_of, VisitsPart}
 use Rattle.scan_chunks.proofs.Shelves.{IsScanned, zip_weaker, item_left, zip_set, zip_more, rest_more, flat_map_more, part_whole, part_none, on_err}
-use Rattle.scan_chunks.proofs.many.scan_many.Goals as goal
+use Rattle.scan_chunks.proofs.many.scan_in_turn.Goals as goal
 
 pub append_scan-requires-clause-column : goal.append_scan-requires-clause-column
 append_scan-requires-clause-column g c =
