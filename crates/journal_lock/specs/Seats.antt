@@ -17,8 +17,9 @@ pub record Named (T : Type 0) : Type 0 where
   pub id : TableId
   pub tag : T
 
--- a value that is out, and its journal as it was taken
+-- a value that is out: the lock that it was taken from, the value, and its journal as it was taken
 pub record Out (S : Type 0) : Type 0 where
+  pub lock : TableId
   pub value : S
   pub journal : List ℕ
 

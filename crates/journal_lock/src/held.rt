@@ -1,16 +1,18 @@
 ghost use Rattle.std.specs.Prelude.{◌≡◌, length};
 
 use crate::journaled::Journaled;
+use crate::steps::Token;
 use std::marker::Model;
 use std::snapshot::Snapshot;
 
 /// The value of a lock, while a seat has it. It can't be let go: it ends in `JournalLock::give` alone.
 ///
-/// Contracts see it as the value and the journal that the value had when it was taken.
+/// Contracts see it as the lock that it was taken from, the value, and the journal that the value had when it was taken.
 pub struct Held<S: Journaled> {
     pub(crate) value: S,
     pub(crate) count: u64,
     pub(crate) taken: Snapshot<S>,
+    pub(crate) by: Snapshot<Token<S>>,
 }
 
 impl<S: Journaled> Model for Held<S> {
@@ -19,7 +21,7 @@ impl<S: Journaled> Model for Held<S> {
 
     ghost Value = { Out S };
 
-    ghost view = { λ h. record { value = h.value; journal = S.journal h.taken.value } };
+    ghost view = { λ h. record { lock = h.by.value.table_id; value = h.value; journal = S.journal h.taken.value } };
 
     ghost invariant = { λ h. h.count ≡ length (S.journal h.taken.value) };
 }

@@ -59,7 +59,7 @@ impl<S: Journaled> JournalLock<S> {
         requires idle { seat.old.holds ≡ false }
         ensures tag { S.tag result.value ≡ self.now.tag }
         ensures journal { S.journal result.value ≡ seat.new.seen }
-        ensures taken { result.journal ≡ seat.new.seen }
+        ensures taken { (result.lock ≡ self.now.id) × (result.journal ≡ seat.new.seen) }
         ensures grown { IsPrefix seat.old.seen seat.new.seen }
         ensures seat { seat.new ≡ record seat.old { holds = true; seen = seat.new.seen; looks = seat.old.looks + 1 } }
     {
@@ -73,7 +73,7 @@ impl<S: Journaled> JournalLock<S> {
         requires idle { seat.old.holds ≡ false }
         ensures tag { IfSome result (λ h. S.tag h.value ≡ self.now.tag) }
         ensures journal { IfSome result (λ h. S.journal h.value ≡ seat.new.seen) }
-        ensures taken { IfSome result (λ h. h.journal ≡ seat.new.seen) }
+        ensures taken { IfSome result (λ h. (h.lock ≡ self.now.id) × (h.journal ≡ seat.new.seen)) }
         ensures grown { IsPrefix seat.old.seen seat.new.seen }
         ensures some { IsSome result → seat.new ≡ record seat.old { holds = true; seen = seat.new.seen; looks = seat.old.looks + 1 } }
         ensures none { IfNone result (seat.new ≡ record seat.old { tries = seat.old.tries + 1 }) }
@@ -91,7 +91,7 @@ impl<S: Journaled> JournalLock<S> {
         requires out { (value : S) × (token.old.me.1 ≡ (0, Some value) ∷ []) × (S.journal value ≡ token.old.me.0.held) × (S.tag value ≡ self.now.tag) }
         ensures tag { S.tag result.value ≡ self.now.tag }
         ensures journal { S.journal result.value ≡ token.old.me.0.held }
-        ensures taken { result.journal ≡ token.old.me.0.held }
+        ensures taken { (result.lock ≡ self.now.id) × (result.journal ≡ token.old.me.0.held) }
         ensures table { token.new.table_id ≡ token.old.table_id }
         ensures me { token.new.me ≡ (record token.old.me.0 { seen = token.old.me.0.held; looks = token.old.me.0.looks + 1 }, (0, None) ∷ []) }
     {
@@ -99,10 +99,12 @@ impl<S: Journaled> JournalLock<S> {
         let value = steps::take_out(desk, token);
         let count = steps::read(desk, token);
         let taken = Snapshot::of(&value);
+        let by = Snapshot::of(&*token);
         Held {
             value,
             count,
             taken,
+            by,
         }
     }
 
@@ -110,7 +112,7 @@ impl<S: Journaled> JournalLock<S> {
     pub fn give(&self, seat: &mut Seat<S>, held: Held<S>)
         requires lock { seat.old.lock ≡ self.now.id }
         requires holds { seat.old.holds ≡ true }
-        requires taken { held.journal ≡ seat.old.seen }
+        requires taken { (held.lock ≡ self.now.id) × (held.journal ≡ seat.old.seen) }
         requires tag { S.tag held.value ≡ self.now.tag }
         requires journal { OneMore held.journal (S.journal held.value) }
         ensures { seat.new ≡ record seat.old { holds = false; seen = S.journal held.value } }
@@ -119,6 +121,7 @@ impl<S: Journaled> JournalLock<S> {
             value,
             count,
             taken: _,
+            by: _,
         } = held;
         let desk = &self.desk.shared;
         let token = &mut seat.token;

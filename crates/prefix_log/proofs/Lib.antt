@@ -10,6 +10,7 @@ pub mod Logged
 pub mod Parts
 pub mod Pieces
 pub mod Placings
+pub mod Prefixes
 pub mod Ranges
 pub mod Sealed
 pub mod Stored

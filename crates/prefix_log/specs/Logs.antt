@@ -6,6 +6,7 @@ use Rattle.table_schema.specs.Widths.{Fits, column_bits}
 use Rattle.table_schema.specs.declared.widths.Widths.{Widths}
 use Rattle.onehot_column.specs.Piece.{HasWidths}
 use Rattle.onehot_column.specs.declared.piece.Piece.{Piece}
+use Rattle.prefix_log.specs.declared.tag.LogTag.{LogTag}
 use Rattle.prefix_log.specs.Chunks.{Halves, stored_slots}
 
 -- whose it is, the widths of the pieces, how many places there are, the places in the order of placing, and at each place its piece
@@ -15,6 +16,10 @@ pub record Log : Type 0 where
   pub capacity : ℕ
   pub journal : List ℕ
   pub slots : List (Option Piece)
+
+-- what never changes of a log
+abbrev pub log_tag : Log → LogTag
+log_tag log = record { server = log.server; widths = log.widths; capacity = log.capacity }
 
 -- the piece at a place, if there is one
 abbrev pub piece_at : List (Option Piece) → ℕ → Option Piece

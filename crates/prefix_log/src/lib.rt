@@ -30,12 +30,14 @@ pub mod laws;
 mod log;
 mod rows;
 mod snapshot;
+mod tag;
 
 pub use bulk::Entry;
 pub use fault::OpenFault;
 pub use journal::prefix_of;
 pub use log::{ServerLog, append_rows};
 pub use snapshot::Snapshot;
+pub use tag::LogTag;
 
 #[cfg(test)]
 mod tests;

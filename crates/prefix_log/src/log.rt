@@ -10,6 +10,8 @@ use crate::bulk::Entry;
 use crate::chunks::{Chunks, fill_three};
 use crate::journal::first_gap;
 use crate::snapshot::Snapshot;
+use crate::tag::LogTag;
+use journal_lock::Journaled;
 use onehot_column::Piece;
 use ring128::Memory;
 use scan_chunks::Shelf;
@@ -27,7 +29,7 @@ pub struct ServerLog {
     server: u8,
     widths: Widths,
     capacity: u32,
-    journal: Vec<u16>, // a place is below 65,536
+    journal: Vec<u64>,
     filled: Vec<bool>,
     chunks: Chunks,
     prefix: u64,
@@ -43,6 +45,20 @@ impl Model for ServerLog {
     ghost view = { λ s. log_of s.server s.widths s.capacity s.journal.items s.filled.items s.chunks.chunks };
 
     ghost invariant = { λ s. IsKept (vec_capacity s.journal) s.prefix (log_of s.server s.widths s.capacity s.journal.items s.filled.items s.chunks.chunks) × IsStored s.widths s.capacity s.prefix s.filled.items s.chunks };
+}
+
+impl Journaled for ServerLog {
+    ghost use Rattle.prefix_log.specs.Logs.{log_tag};
+
+    type Tag = LogTag;
+
+    ghost journal = { λ log. log.journal };
+
+    ghost tag = { log_tag };
+
+    fn count(&self) -> u64 {
+        self.journal.len() as u64
+    }
 }
 
 impl ServerLog {
@@ -77,14 +93,22 @@ impl ServerLog {
         ensures server { self.new.server ≡ self.old.server }
         ensures widths { self.new.widths ≡ self.old.widths }
         ensures capacity { self.new.capacity ≡ self.old.capacity }
+        ensures legal { IsLog self.new }
     {
         if self.filled[place as usize] {
             return;
         }
         self.chunks.write(&self.widths, place, &piece);
         self.filled[place as usize] = true;
-        self.journal.push_reserved(place as u16);
+        self.journal.push_reserved(place);
         self.prefix = first_gap(self.filled.as_slice(), self.prefix as usize) as u64;
+    }
+
+    /// The places that have a piece, in the order in which they were filled.
+    pub fn journal(&self) -> &[u64]
+        ensures { result.now ≡ self.now.journal }
+    {
+        self.journal.as_slice()
     }
 
     /// How many of the first places have a piece: the largest number such that each place below it is in the journal.
@@ -100,6 +124,7 @@ impl ServerLog {
     /// memory; in every case the log stays.
     pub fn fix(&mut self, alloc: Global) -> Result<Snapshot, Memory>
         ensures stays { self.new ≡ self.old }
+        ensures legal { IsLog self.old }
         ensures rows { IfOk result (λ s. IsPrefixOf self.old.journal (⟦<Snapshot as Shelf>⟧.held s).rows) }
         ensures pieces { IfOk result (λ s. let h = ⟦<Snapshot as Shelf>⟧.held s in HoldsPieces self.old.widths (pieces_in (take h.rows self.old.slots)) h) }
         ensures visits { IfOk result (λ s. ⟦<Snapshot as Shelf>⟧.visited s ≡ []) }
@@ -157,7 +182,7 @@ pub fn append_rows<R: Threads + Sync>(
 }
 
 // Marks the first places as filled in their order, where none was.
-fn mark(journal: &mut Vec<u16>, filled: &mut Vec<bool>, count: usize)
+fn mark(journal: &mut Vec<u64>, filled: &mut Vec<bool>, count: usize)
     requires none { journal.old.items ≡ [] }
     requires room { count ≤ vec_capacity journal.old }
     requires there { count ≤ length filled.old.items }
@@ -169,7 +194,7 @@ fn mark(journal: &mut Vec<u16>, filled: &mut Vec<bool>, count: usize)
     ensures filled { (place : ℕ) → slice_index_or filled.new.items place false ≡ nat_lt place count }
 {
     for i in 0..count {
-        journal.push_reserved(i as u16);
+        journal.push_reserved(i as u64);
         filled[i] = true;
     }
 }

@@ -11,7 +11,8 @@ use Rattle.list_facts.specs.Count.{total, times, once_below, longer}
 use Rattle.list_facts.proofs.Count.{total-append, total-set, total_has, times-append, once_below-more, once_below_rises, once_below_most, once_below_both}
 use Rattle.list_facts.proofs.Each.{All-at}
 use Rattle.list_facts.proofs.Prefixes.{prefix_nil, prefix_self, prefix_trans, prefix_length, longer_left, longer_right, longer_prefix, longer_begins}
-use Rattle.ticket_place.specs.declared.entry.Entry.{Entry}
+use Rattle.prg_chacha.specs.declared.seed.Seed.{Seed}
+use Rattle.table_schema.specs.declared.rows.Row.{Row}
 use Rattle.ticket_place.specs.declared.known.Known.{Known}
 use Rattle.ticket_place.specs.Orders.{Fits, Ordered, SoundSeat, fresh}
 use Rattle.ticket_place.specs.Steps as steps
@@ -30,17 +31,17 @@ abbrev owns : ℕ → Known → ℕ
 owns x v = times x v.own
 
 -- what fits one order fits a longer one
-fits_more : (order more : List Entry) → IsPrefix order more → (v : Known) → Fits order v → Fits more v
+fits_more : (order more : List (Row × Seed)) → IsPrefix order more → (v : Known) → Fits order v → Fits more v
 fits_more order more p v f = record { seen = prefix_trans _ _ _ f.seen p; left = prefix_trans _ _ _ f.left p; right = prefix_trans _ _ _ f.right p; own = f.own }
 
-fits_fresh : (order seen : List Entry) (room : ℕ) → IsPrefix seen order → Fits order (fresh seen room)
+fits_fresh : (order seen : List (Row × Seed)) (room : ℕ) → IsPrefix seen order → Fits order (fresh seen room)
 fits_fresh order seen room p = record { seen = p; left = prefix_nil order; right = prefix_nil order; own = λ x. omega arith }
 
 here_of : (capacity : ℕ) (s : S) (r : Ordered capacity s) (id : ℕ) (v : Known) → get_elem? s.views id ≡ some v → Fits r.order v
 here_of capacity s r id v at = All-at (Fits r.order) s.views id v r.fits at
 
 -- the own places, each once, where the last place of the order is one more of them
-own_more : (order : List Entry) (entry : Entry) (v : Known) (place : ℕ) → Fits order v → place ≡ length order
+own_more : (order : List (Row × Seed)) (entry : Row × Seed) (v : Known) (place : ℕ) → Fits order v → place ≡ length order
     → (x : ℕ) → times x (v.own ++ place ∷ []) ≤ once_below x (length (order ++ entry ∷ []))
 own_more order entry v place here is x =
     let before = here.own x in
@@ -50,7 +51,7 @@ own_more order entry v place here is x =
     let same : times x (place ∷ []) ≡ times x (length order ∷ []) = ap (λ (k : ℕ). times x (k ∷ [])) is in
     let e : once_below x (length (order ++ entry ∷ [])) ≡ once_below x (length order + 1) = ap (once_below x) (length-append order (entry ∷ [])) in omega arith
 
-pub draws : (capacity slots id : ℕ) (me : M) (entry : Entry) → 0 < me.0.room
+pub draws : (capacity slots id : ℕ) (me : M) (entry : Row × Seed) → 0 < me.0.room
     → Allows (Ordered capacity) slots id me 0 (λ n. (n + 1) % 2 ^ 64) (steps.draws entry capacity (step slots 0 1 0 none) me)
 draws capacity slots id me entry some_room s r wide at small =
     let v = me.0 in
@@ -58,7 +59,7 @@ draws capacity slots id me entry some_room s r wide at small =
     let is : n ≡ length r.order = ap (λ (ws : List ℕ). get_or ws 0 0) r.word in
     let here = here_of capacity s r id v at in
     let p = here.seen in
-    let more : List Entry = r.order ++ entry ∷ [] in
+    let more : List (Row × Seed) = r.order ++ entry ∷ [] in
     let to_more : IsPrefix r.order more = (entry ∷ [], refl) in
     let w : Known = record v { order = more; room = v.room - 1; own = v.own ++ n ∷ [] } in
     let long : length more ≡ length r.order + 1 = length-append r.order (entry ∷ []) in
@@ -88,7 +89,7 @@ draws capacity slots id me entry some_room s r wide at small =
       (
         record {
           others = p.0;
-          order = ap (λ (l : List Entry). l ++ entry ∷ []) (sym p.1);
+          order = ap (λ (l : List (Row × Seed)). l ++ entry ∷ []) (sym p.1);
           at = is ∙ ap length (sym p.1);
           room = omega arith;
           own = refl;
@@ -199,7 +200,7 @@ notes capacity slots id me s r wide at small =
       unmoved capacity id s r v w at (record { seen = here.seen; left = prefix_nil r.order; right = prefix_nil r.order; own = here.own }) refl refl,
       (
         refl,
-        (λ e. subst (λ (l : List Entry). IsPrefix v.left l × IsPrefix v.right l) (sym e) (longer_begins v.left v.right r.order here.left here.right)),
+        (λ e. subst (λ (l : List (Row × Seed)). IsPrefix v.left l × IsPrefix v.right l) (sym e) (longer_begins v.left v.right r.order here.left here.right)),
         record { within = omega arith; once = here.own },
         omega arith,
       ),

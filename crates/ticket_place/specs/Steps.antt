@@ -3,24 +3,25 @@ use Rattle.std.specs.Prelude.{◌≡◌, ℕ, ◌+◌, ◌-◌, ◌<◌, ◌^◌
 use mathlib.Core.List.{IsPrefix}
 use Rattle.atomic_table.specs.Table.{Me, Step}
 use Rattle.list_facts.specs.Count.{longer}
-use Rattle.ticket_place.specs.declared.entry.Entry.{Entry}
+use Rattle.prg_chacha.specs.declared.seed.Seed.{Seed}
+use Rattle.table_schema.specs.declared.rows.Row.{Row}
 use Rattle.ticket_place.specs.declared.known.Known.{Known}
 use Rattle.ticket_place.specs.Orders.{SoundSeat, fresh}
 
 -- an entry that no draw makes
-abbrev pub blank : Entry
-blank = record { row = record { columns = 0; buckets = []; value = pos 0 }; seed = record { words = [] } }
+abbrev pub blank : Row × Seed
+blank = (record { columns = 0; buckets = []; value = pos 0 }, record { words = [] })
 
 -- the order is the old one, then what others drew, then the entry, at the place that was found
-pub record Adds (entry : Entry) (v : Known) (place : ℕ) (w : Known) : Type 0 where
-  pub others : List Entry
+pub record Adds (entry : Row × Seed) (v : Known) (place : ℕ) (w : Known) : Type 0 where
+  pub others : List (Row × Seed)
   pub order : w.order ≡ (v.order ++ others) ++ entry ∷ []
   pub at : place ≡ length (v.order ++ others)
   pub room : w.room + 1 ≡ v.room
   pub own : w.own ≡ v.own ++ place ∷ []
   pub rest : w ≡ record v { order = w.order; room = w.room; own = w.own }
 
-abbrev pub draws : Entry → ℕ → Step (Unit {0}) → Me (Unit {0}) Known → ℕ → Me (Unit {0}) Known → Type 0
+abbrev pub draws : Row × Seed → ℕ → Step (Unit {0}) → Me (Unit {0}) Known → ℕ → Me (Unit {0}) Known → Type 0
 draws entry capacity st m found m' = Adds entry m.0 found m'.0 × (m'.1 ≡ m.1) × SoundSeat capacity m'.0
 
 -- the whole order is seen, whose length was found

@@ -67,7 +67,7 @@ impl Book {
     pub fn draw(&self, sight: &mut Sight, entry: Entry) -> Result<Ticket, Full>
         requires { sight.old.book ≡ self.now }
         ensures room { IfOk result (λ _. 0 < sight.old.room) }
-        ensures draws { IfOk result (λ t. Draws entry sight.old t.place sight.new) }
+        ensures draws { IfOk result (λ t. Draws (entry.row, entry.seed) sight.old t.place sight.new) }
         ensures sound { IsSound sight.new }
         ensures full { OnErr result (sight.old.room ≡ 0) }
         ensures back { IfErr result (λ f. (f.capacity ≡ self.now.capacity) × (f.entry ≡ entry)) }

@@ -1,10 +1,11 @@
-use crate::entry::Entry;
+use prg_chacha::Seed;
 use std::collections::LinkedList;
+use table_schema::Row;
 
 /// What a seat knows of the order. It exists in proofs alone: no value of it is made.
 pub struct Known {
     /// A beginning of the one order.
-    pub order: LinkedList<Entry>,
+    pub order: LinkedList<(Row, Seed)>,
     /// How many draws it may still make.
     pub room: u64,
     /// The places that were drawn through it.
@@ -12,6 +13,6 @@ pub struct Known {
     /// Its loads of the order's length.
     pub looks: u64,
     /// The order that the seat had seen before the last join, and the one that the other had seen.
-    pub left: LinkedList<Entry>,
-    pub right: LinkedList<Entry>,
+    pub left: LinkedList<(Row, Seed)>,
+    pub right: LinkedList<(Row, Seed)>,
 }

@@ -23,9 +23,10 @@ impl TableRule<(), Known, u64> for OneOrder {
 /// The entry of a draw and the capacity. The call picks them, since a `Play` sees neither.
 pub trait Drawing {
     ghost use Rattle.std.specs.Prelude.{ℕ};
-    ghost use Rattle.ticket_place.specs.declared.entry.Entry.{Entry};
+    ghost use Rattle.prg_chacha.specs.declared.seed.Seed.{Seed};
+    ghost use Rattle.table_schema.specs.declared.rows.Row.{Row};
 
-    ghost entry: { Entry };
+    ghost entry: { Row × Seed };
 
     ghost capacity: { ℕ };
 }

@@ -14,10 +14,10 @@ type Word = Shared<(), Known, u64, OneOrder>;
 // The fetch that adds 1, for the entry. Answers its place.
 pub(crate) fn draw<N: Drawing>(word: &Word, seat: &mut Seat<(), Known>, entry: Entry) -> u64
     requires word { (word.now.table_id.words ≡ 1) × (seat.old.table_id ≡ word.now.table_id) }
-    requires picked { (entry ≡ N.entry) × (word.now.key ≡ N.capacity) }
+    requires picked { ((entry.row, entry.seed) ≡ N.entry) × (word.now.key ≡ N.capacity) }
     requires room { 0 < seat.old.me.0.room }
     ensures same { (seat.new.table_id ≡ seat.old.table_id) × (seat.new.me.1 ≡ seat.old.me.1) }
-    ensures adds { Adds entry seat.old.me.0 result seat.new.me.0 }
+    ensures adds { Adds (entry.row, entry.seed) seat.old.me.0 result seat.new.me.0 }
     ensures sound { SoundSeat word.now.key seat.new.me.0 }
 {
     let _ = entry;

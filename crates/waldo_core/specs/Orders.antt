@@ -1,20 +1,16 @@
 -- The order of draws, as its only sight sees it.
-use Rattle.std.specs.Prelude.{◌≡◌, ℕ, ◌+◌, List, length, map}
+use Rattle.std.specs.Prelude.{◌≡◌, ℕ, ◌+◌, List, length}
 use Rattle.prg_chacha.specs.declared.seed.Seed.{Seed}
 use Rattle.table_schema.specs.declared.rows.Row.{Row}
 use Rattle.ticket_place.specs.Sights.{Named, Seen}
-use Rattle.ticket_place.specs.declared.entry.Entry.{Entry}
 
 -- the rows that were drawn, each with its seed, and how many there may be
 pub record Entries : Type 0 where
   pub all : List (Row × Seed)
   pub capacity : ℕ
 
-abbrev pub pair_of : Entry → Row × Seed
-pair_of entry = (entry.row, entry.seed)
-
 abbrev pub entries_in : Seen → Entries
-entries_in sight = record { all = map pair_of sight.order; capacity = sight.book.capacity }
+entries_in sight = record { all = sight.order; capacity = sight.book.capacity }
 
 -- the only sight of a book: what was drawn and what it may still draw is all that the book takes
 pub record IsOnly (book : Named) (sight : Seen) : Type 0 where

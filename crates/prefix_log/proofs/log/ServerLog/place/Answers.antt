@@ -61,3 +61,6 @@ returns-clause-placed c =
     ap (λ (j : List ℕ). log_of s.server s.widths s.capacity j (set s.filled.items c.args.place true) c.write.new.self.chunks) c.push_reserved.ensures.items
     ∙ placed_is (vec_capacity s.journal) s.prefix s.server s.widths s.capacity s.journal.items s.filled.items s.chunks c.self.invariant.0 c.self.invariant.1 c.args.place c.args.piece lt free c.write.new.self c.write.ensures.written own
     ∙ ap (λ (v : Log). placed v c.args.place c.args.piece) c.self.view_is
+
+pub returns-clause-legal : goal.returns-clause-legal
+returns-clause-legal c = (invariant_of-self c).0.legal

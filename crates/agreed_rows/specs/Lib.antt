@@ -1,0 +1,4 @@
+pub mod Agreed
+pub mod Answers
+pub mod Servers
+pub mod Shelves

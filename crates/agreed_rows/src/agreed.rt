@@ -1,0 +1,68 @@
+//! Rows that were agreed on.
+ghost use Rattle.std.specs.Prelude.{◌≡◌, ◌≤◌, length, min, take};
+ghost use Rattle.agreed_rows.specs.Servers.{KeepsFirst};
+ghost use Rattle.agreed_rows.specs.Agreed.{Sound};
+
+use crate::agreement::Agreement;
+use prefix_log::Snapshot;
+use scan_chunks::Shelf;
+use std::marker::Model;
+use std::snapshot;
+use table_schema::Widths;
+use ticket_place::Sight;
+
+/// The first rows of an order as three servers hold them, until it is let go. Nothing that is drawn or placed later
+/// changes it.
+///
+/// Contracts see it as the widths and the entries, each row with the seed that splits it.
+#[derive(Drop)]
+pub struct Agreed {
+    pub(crate) widths: Widths,
+    pub(crate) sight: snapshot::Snapshot<Sight>, // takes no bytes
+    pub(crate) rows: Agreement,
+}
+
+impl Model for Agreed {
+    ghost use Rattle.std.specs.Prelude.{take};
+    ghost use Rattle.agreed_rows.specs.Agreed.{Entries, IsAgreed};
+
+    ghost Value = { Entries };
+
+    ghost view = { λ a. record { widths = a.widths; all = take (⟦<Snapshot as Shelf>⟧.held a.rows.zero).rows a.sight.value.order } };
+
+    ghost invariant = { λ a. let held = ⟦<Snapshot as Shelf>⟧.held in
+        IsAgreed a.widths a.sight.value.order (held a.rows.zero).rows (held a.rows.zero) (held a.rows.one) (held a.rows.two) };
+}
+
+impl Agreed {
+    /// The rows of three snapshots, of servers 0, 1 and 2, which hold first rows of the order that the sight has seen: those
+    /// of the least of the three. It takes no memory.
+    pub fn of(
+        widths: &Widths,
+        sight: &Sight,
+        zero: Snapshot,
+        one: Snapshot,
+        two: Snapshot,
+    ) -> Agreed
+        requires few { length sight.now.order ≤ 65536 }
+        requires zero { let h = ⟦<Snapshot as Shelf>⟧.held zero in KeepsFirst widths.now 0 sight.now.order h.rows h }
+        requires one { let h = ⟦<Snapshot as Shelf>⟧.held one in KeepsFirst widths.now 1 sight.now.order h.rows h }
+        requires two { let h = ⟦<Snapshot as Shelf>⟧.held two in KeepsFirst widths.now 2 sight.now.order h.rows h }
+        ensures { let held = ⟦<Snapshot as Shelf>⟧.held in
+            result ≡ record { widths = widths.now; all = take (min (min (held zero).rows (held one).rows) (held two).rows) sight.now.order } }
+    {
+        Agreed {
+            widths: *widths,
+            sight: snapshot::Snapshot::of(sight),
+            rows: Agreement::of(zero, one, two),
+        }
+    }
+
+    /// How many rows there are.
+    pub fn rows(&self) -> u64
+        ensures rows { result ≡ length self.now.all }
+        ensures sound { Sound self.now }
+    {
+        self.rows.rows()
+    }
+}

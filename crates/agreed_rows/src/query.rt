@@ -1,0 +1,62 @@
+//! A query over rows that were agreed on.
+ghost use Rattle.std.specs.Prelude.{◌≡◌, ◌<◌, ◌≤◌, List, IsOk};
+ghost use Rattle.fault_count.specs.Causes.{Rose};
+ghost use Rattle.query_plan.specs.Query.{Suits};
+ghost use Rattle.server_rounds.specs.declared.opened.OpenedPair.{OpenedPair};
+ghost use Rattle.wire_line.specs.Messages.{Went};
+ghost use Rattle.wire_line.specs.declared.message.Message.{Message};
+ghost use Rattle.agreed_rows.specs.Answers.{Answers, IsPlainAnswer};
+
+use crate::agreed::Agreed;
+use prg_chacha::Seed;
+use query_plan::{Query, make_keys};
+use std::alloc::Global;
+use std::thread::Threads;
+use weighted_check::{Altered, check};
+use wire_line::Wire;
+
+/// The count or sum over so many rows.
+#[derive(Clone, Copy, Debug, PartialEq, Eq)]
+pub struct Answered {
+    pub rows: u64,
+    pub total: u64,
+}
+
+/// Why a query was not answered: the check refused what was opened, or there was no memory.
+#[derive(Clone, Copy, Debug, PartialEq, Eq)]
+pub enum AnswerFault {
+    Altered { total: u128, weighted: u128 },
+    Memory,
+}
+
+/// Asks a query, with its seed, over the rows, each server's shared among so many workers. For want of memory the first
+/// messages of the query may have been carried.
+pub fn answer<R: Threads + Sync, W: Wire>(
+    rt: &R,
+    alloc: Global,
+    agreed: &Agreed,
+    query: &Query,
+    seed: &Seed,
+    wire: &mut W,
+    workers: u8,
+) -> Result<Answered, AnswerFault>
+    requires suits { Suits agreed.now.widths.columns agreed.now.widths.bits query.now }
+    requires some { 0 < workers }
+    ensures answers { (ms : List Message) × (pair : OpenedPair) × Went W.told W.alterations W.passes wire.old ms wire.new
+        × Answers agreed.now query.now seed.now ms pair result }
+    ensures plain { ¬ Rose (W.alterations wire.old) (W.alterations wire.new) → IsPlainAnswer agreed.now query.now result }
+{
+    let Ok(keys) = make_keys(alloc, query, &agreed.widths, seed) else {
+        return Err(AnswerFault::Memory);
+    };
+    match agreed.rows.open_pair(rt, alloc, workers, &keys, wire) {
+        Err(_) => Err(AnswerFault::Memory),
+        Ok(pair) => match check(pair.total, pair.weighted, keys.key()) {
+            Ok(total) => Ok(Answered {
+                rows: agreed.rows.rows(),
+                total,
+            }),
+            Err(Altered { total, weighted }) => Err(AnswerFault::Altered { total, weighted }),
+        },
+    }
+}

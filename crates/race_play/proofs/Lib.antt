@@ -1,0 +1,10 @@
+pub mod Asking
+pub mod Backs
+pub mod Filling
+pub mod Gathering
+pub mod Ordering
+pub mod Orders
+pub mod Racing
+pub mod Splitting
+pub mod Sums
+pub mod Writing

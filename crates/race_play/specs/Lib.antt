@@ -1,0 +1,11 @@
+pub mod Filled
+pub mod Gathers
+pub mod Jobs
+pub mod Laws
+pub mod Lines
+pub mod Printed
+pub mod Raced
+pub mod Reports
+pub mod Rounds
+pub mod Turns
+pub mod Writes

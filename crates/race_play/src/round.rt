@@ -1,0 +1,60 @@
+//! A round of an asker.
+ghost use Rattle.std.specs.Prelude.{◌≡◌, ◌<◌, List, IfOk};
+ghost use Rattle.fault_count.specs.Causes.{Rose};
+ghost use Rattle.prg_chacha.specs.Prg.{derive_of};
+ghost use Rattle.query_plan.specs.Query.{Suits};
+ghost use Rattle.report_lines.specs.declared.lines.Who.TheVariants as who;
+ghost use Rattle.server_rounds.specs.declared.opened.OpenedPair.{OpenedPair};
+ghost use Rattle.wire_line.specs.Messages.{Went};
+ghost use Rattle.wire_line.specs.declared.message.Message.{Message};
+ghost use Rattle.waldo_table.specs.Tables.{Grows, IsCovered, IsOf};
+ghost use Rattle.race_play.specs.Rounds.{Asks, IsPlainLine};
+
+use crate::gate::{Gate, Point};
+use crate::lines::line_of_ask;
+use prg_chacha::{Seed, derive};
+use query_plan::Query;
+use report_lines::{Line, Who};
+use ring128::Memory;
+use std::alloc::Global;
+use std::sync::Wait;
+use std::thread::Threads;
+use waldo_table::{Pass, Table};
+use wire_line::Wire;
+
+/// Asks a query over the rows that the three servers have, and passes the gate.
+pub fn ask_round<R: Threads + Wait + Sync, W: Wire, G: Gate>(
+    rt: &R,
+    alloc: Global,
+    table: &Table,
+    pass: &mut Pass,
+    query: &Query,
+    asker: u8,
+    round: u8,
+    master: &Seed,
+    wire: &mut W,
+    workers: u8,
+    gate: &G,
+) -> Result<Line, Memory>
+    requires pass { IsOf table.now pass.old }
+    requires covered { IsCovered pass.old }
+    requires suits { Suits table.now.widths.columns table.now.widths.bits query.now }
+    requires some { 0 < workers }
+    ensures pass { IsOf table.now pass.new }
+    ensures grows { Grows pass.old pass.new }
+    ensures own { pass.new.sight ≡ record pass.old.sight { order = pass.new.sight.order } }
+    ensures covered { IfOk result (λ _. IsCovered pass.new) }
+    ensures asks { (ms : List Message) × (pair : OpenedPair) × Went W.told W.alterations W.passes wire.old ms wire.new
+        × IfOk result (Asks table.now.widths pass.old pass.new (who.Round asker round) query.now (derive_of master.now 2 asker round) ms pair) }
+    ensures plain { ¬ Rose (W.alterations wire.old) (W.alterations wire.new) → IfOk result (IsPlainLine table.now.widths pass.new (who.Round asker round) query.now) }
+{
+    let seed = derive(master, 2, u16::from(asker), u64::from(round));
+    let asked = table.ask(rt, alloc, pass, query, &seed, wire, workers);
+    let who = Who::Round {
+        actor: asker,
+        round: u64::from(round),
+    };
+    let line = line_of_ask(who, pass.floor(), query.aggregate, asked)?;
+    gate.pass(Point::AfterAnswer { asker, round });
+    Ok(line)
+}

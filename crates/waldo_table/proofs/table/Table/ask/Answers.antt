@@ -1,0 +1,18 @@
+use Rattle.std.proofs.Common.{refl, []}
+use Rattle.wire_line.specs.Carried.{went_none}
+use Rattle.server_rounds.specs.declared.opened.OpenedPair.{OpenedPair}
+use Rattle.waldo_table.proofs.Asking.{asked_fault, never_fault, plain_fault}
+use Rattle.waldo_table.proofs.table.Table.ask.Goals as goal
+
+nothing : OpenedPair
+nothing = record { total = 0; weighted = 0 }
+
+pub returns-in-Err-clause-asked : goal.returns-in-Err-clause-asked
+returns-in-Err-clause-asked g c =
+    ([], nothing, went_none g.W.Wire.told g.W.Wire.alterations g.W.Wire.passes _ _ refl refl (g.met.W.Wire.none_passes _), rw c.asked.ensures (asked_fault _ _ _ _ _ nothing c.in-Err.fault c.in-Err.ensures.again c.in-Err.ensures.floor))
+
+pub returns-in-Err-clause-plain : goal.returns-in-Err-clause-plain
+returns-in-Err-clause-plain g c still = rw c.asked.ensures (plain_fault c.args.self.now.widths c.agree.new.pass c.args.query.now c.in-Err.fault)
+
+pub returns-in-Err-clause-never : goal.returns-in-Err-clause-never
+returns-in-Err-clause-never g c covered = rw c.asked.ensures (never_fault c.in-Err.fault (c.in-Err.ensures.never covered))

@@ -1,0 +1,10 @@
+-- Why a server was not fixed.
+use Rattle.std.specs.Prelude.{◌≡◌, ℕ, ◌<◌, ⊤, List}
+use Rattle.prefix_log.specs.Journal.{prefix}
+use Rattle.waldo_table.specs.declared.faults.FixFault.{FixFault}
+use Rattle.waldo_table.specs.declared.faults.FixFault.TheVariants as fix
+
+-- the journal has just so many of the first places, fewer than the floor; want of memory is free
+abbrev pub IsFixFault : ℕ → List ℕ → FixFault → Type 0
+IsFixFault floor journal (fix.Below had) = (had ≡ prefix journal) × (had < floor)
+IsFixFault floor journal fix.Memory = ⊤

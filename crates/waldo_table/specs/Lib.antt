@@ -1,0 +1,6 @@
+pub mod Asks
+pub mod Faults
+pub mod Fixes
+pub mod Pieces
+pub mod Tables
+pub mod Vaults
