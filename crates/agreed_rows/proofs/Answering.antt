@@ -22,7 +22,7 @@ use Rattle.table_schema.specs.declared.widths.Widths.{Widths}
 use Rattle.transcript.specs.Laws.{Asks, HasColumns}
 use Rattle.transcript.specs.Plain.{plain}
 use Rattle.transcript.specs.Rows.{pieces_over}
-use Rattle.transcript.specs.Setup.{setup_for}
+use Rattle.transcript.specs.Formulas.{setup_for}
 use Rattle.transcript.specs.Transcript.{IsPart, IsTranscript, opened_of}
 use Rattle.transcript.proofs.Held.{pieces_hold}
 use Rattle.transcript.proofs.Honest.{pair_opens}
@@ -94,7 +94,7 @@ module _ (w : Widths) (order : List (Row × Seed)) (n : ℕ) (h0 h1 h2 : Held) (
       → pair.total ≡ opened_of (setup_for keys.query keys.widths keys.seed n (by_server h0.pieces h1.pieces h2.pieces)) ms 0
       → pair.weighted ≡ opened_of (setup_for keys.query keys.widths keys.seed n (by_server h0.pieces h1.pieces h2.pieces)) ms 1 → Opens rows query seed ms pair
   asked_opens ms pair all total weighted =
-      let full : length ms ≡ 3 + 12 * query.count = all.full ∙ ap (λ (k : Asked). 3 + 12 * k.query.count) asking.made in
+      let full : length ms ≡ 3 + 12 * query.count + 6 * 0 = all.full ∙ ap (λ (k : Asked). 3 + 12 * k.query.count + 6 * 0) asking.made in
       record {
         transcript = record { part = asked_part ms all.part; full = full };
         total = total ∙ ap (λ (k : Asked). opened_of (setup_for k.query k.widths k.seed n (by_server h0.pieces h1.pieces h2.pieces)) ms 0) asking.made;
@@ -116,7 +116,7 @@ module _ (w : Widths) (order : List (Row × Seed)) (n : ℕ) (h0 h1 h2 : Held) (
         hold = pieces_hold w entries is.zero.rows;
         long = sym (length-map entries (λ (entry : Row × Seed). entry.0));
       } in
-      let opened = pair_opens (setup_over rows query seed) query (weights_of seed) (rows_in entries) ms (λ j. refl) asks opens.transcript honest in
+      let opened = pair_opens (setup_over rows query seed) query (weights_of seed) (rows_in entries) ms (λ j. refl) asks refl opens.transcript honest in
       let small = plain_is_small w query (rows_in entries) (All-map (Holds w) (λ (entry : Row × Seed). entry.0) entries is.zero.rows)
       (omega (arith, length-map entries (λ (entry : Row × Seed). entry.0), agreed_long w order n h0 h1 h2 is, is.few)) in
       accepted pair.total pair.weighted (key_from (weights_of seed 1) query.count) (plain_total rows query) (opens.total ∙ opened.0) (opens.weighted ∙ opened.1) (omega (arith, small.1))

@@ -9,7 +9,8 @@ use Rattle.server_rounds.specs.declared.opened.OpenedPair.{OpenedPair}
 use Rattle.table_schema.specs.declared.rows.Row.{Row}
 use Rattle.transcript.specs.Plain.{plain}
 use Rattle.transcript.specs.Rows.{pieces_over}
-use Rattle.transcript.specs.Setup.{Setup, setup_for}
+use Rattle.transcript.specs.Setup.{Setup}
+use Rattle.transcript.specs.Formulas.{setup_for}
 use Rattle.transcript.specs.Transcript.{IsPart, IsTranscript, opened_of}
 use Rattle.weighted_check.specs.Check.{checked}
 use Rattle.weighted_check.specs.declared.Altered.{Altered}

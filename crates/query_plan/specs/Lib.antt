@@ -5,3 +5,4 @@ pub mod Query
 pub mod Reading
 pub mod Seeds
 pub mod Views
+pub mod Grouping

@@ -3,6 +3,7 @@
 
 mod draft;
 mod form;
+mod group;
 mod key;
 mod keys;
 pub mod laws;
@@ -14,6 +15,7 @@ mod read;
 mod server_keys;
 mod weights;
 
+pub use group::{GroupFault, GroupQuery, read_group};
 pub use key::{KeyPair, PredicateKey};
 pub use keys::{Keys, make_keys};
 pub use message::{MessageFault, read_message};

@@ -8,9 +8,9 @@ use crate::form::said;
 use crate::query::{Predicate, QueryWhy};
 use table_schema::{Kind, Schema};
 
-// The place of the column with the name.
+/// The place of the column with the name.
 #[tactic(auto, using(crate::proofs::QueryLaws::column_hit, crate::proofs::QueryLaws::column_miss))]
-fn named(schema: &Schema, name: &[u8]) -> Option<u8>
+pub(crate) fn named(schema: &Schema, name: &[u8]) -> Option<u8>
     ensures value { result ≡ column_named name.now schema.now }
     ensures there { IfSome result (λ c. c < length schema.now) }
 {

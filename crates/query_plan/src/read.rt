@@ -37,13 +37,22 @@ fn count_left(rest: Option<&[u8]>) -> usize
 
 /// The query that a text describes: `count` or `sum`, then 1 to 4 predicates, cut at each space; or the first
 /// fault from the left. A query that is read is legal over the schema's widths. Costs no memory.
-#[tactic(auto, using(crate::proofs::QueryLaws::no_aggregate, crate::proofs::QueryLaws::too_few, crate::proofs::QueryLaws::too_many, crate::proofs::QueryLaws::begins, crate::proofs::QueryLaws::good_predicate, crate::proofs::QueryLaws::bad_predicate, crate::proofs::QueryLaws::no_more, crate::proofs::QueryLaws::fewer_left, crate::proofs::Legal::suits_widths))]
 pub fn read_query(schema: &Schema, text: &str) -> Result<Query, QueryFault>
     ensures exact { Reads (λ q. q) result (query_of schema.now text.now) }
     ensures suits { IfOk result (λ q. (w : Widths) → AreWidthsOf schema.now w → Suits w.columns w.bits q) }
     ensures places { IfOk result (λ q. length q.predicates ≡ 4) }
 {
-    let (word, after) = cut(text.as_bytes(), b' ');
+    read_bytes(schema, text.as_bytes())
+}
+
+// The same, of the bytes of a text.
+#[tactic(auto, using(crate::proofs::QueryLaws::no_aggregate, crate::proofs::QueryLaws::too_few, crate::proofs::QueryLaws::too_many, crate::proofs::QueryLaws::begins, crate::proofs::QueryLaws::good_predicate, crate::proofs::QueryLaws::bad_predicate, crate::proofs::QueryLaws::no_more, crate::proofs::QueryLaws::fewer_left, crate::proofs::Legal::suits_widths))]
+pub(crate) fn read_bytes(schema: &Schema, text: &[u8]) -> Result<Query, QueryFault>
+    ensures exact { Reads (λ q. q) result (query_of schema.now text.now) }
+    ensures suits { IfOk result (λ q. (w : Widths) → AreWidthsOf schema.now w → Suits w.columns w.bits q) }
+    ensures places { IfOk result (λ q. length q.predicates ≡ 4) }
+{
+    let (word, after) = cut(text, b' ');
     let Some(aggregate) = aggregate(word) else {
         return Err(QueryFault::Aggregate);
     };

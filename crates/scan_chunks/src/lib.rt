@@ -26,7 +26,7 @@ pub use column::Column;
 pub use many::scan_many;
 pub use owned::OwnedShelf;
 pub use read::read_column;
-pub use scan::scan_one;
+pub use scan::{row, scan_one};
 pub use shelf::{Lent, Shelf};
 pub use tables::Tables;
 pub use visit::Visit;

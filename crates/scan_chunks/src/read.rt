@@ -6,11 +6,10 @@ use replicated_share::PairList;
 use ring128::{Memory, Words};
 use std::alloc::Global;
 
-/// The pairs of a column of one cell a row, a pair a row. Each chunk of the column is visited once, rising. The only error
+/// The pairs of a column, row after row. Each chunk of the column is visited once, rising. The only error
 /// is want of memory; the visits are then the first of these.
 pub fn read_column<S: Shelf>(alloc: Global, shelf: &mut S, column: u8) -> Result<PairList, Memory>
     requires column { column ≤ (S.held shelf.old).columns }
-    requires width { (S.held shelf.old).width column ≡ 1 }
     ensures held { S.held shelf.new ≡ S.held shelf.old }
     ensures first { IfOk result (λ p. p.first ≡ (S.held shelf.old).pieces.first column) }
     ensures second { IfOk result (λ p. p.second ≡ (S.held shelf.old).pieces.second column) }

@@ -77,8 +77,8 @@ fn scan_chunk(numbers: &mut Vec<u128>, lent: &Lent, count: usize, width: usize, 
     }
 }
 
-// A row of a chunk of so many rows.
-fn row(cells: &[u128], i: usize, count: usize, width: usize) -> &[u128]
+/// Row i of so many rows of a column of this width.
+pub fn row(cells: &[u128], i: usize, count: usize, width: usize) -> &[u128]
     requires long { length cells.now ≡ count * width }
     requires there { i < count }
     ensures row { result.now ≡ row_of width i cells.now }

@@ -79,16 +79,15 @@ total_below f [] (suc i) = omega arith
 total_below f (x ∷ xs) zero = omega arith
 total_below f (x ∷ xs) (suc i) = omega (arith, total_below f xs i)
 
--- one value a row
-pub values_long : (column : ℕ) (hs : List Held) → All (λ (h : Held). h.width column ≡ 1) hs → All (λ (h : Held). length (h.pieces.first column) ≡ h.rows * h.width column) hs
-    → length (flat_map (λ (h : Held). h.pieces.first column) hs) ≡ total (λ (h : Held). h.rows) hs
-values_long column [] wide long = refl
-values_long column (h ∷ hs) wide long =
-    let one : h.width column ≡ 1 = wide 0 h (omega arith) in
-    let here : length (h.pieces.first column) ≡ h.rows * h.width column = long 0 h (omega arith) in
-    let same : length (h.pieces.first column) ≡ h.rows = here ∙ rw one (omega arith) in
-    let rest = values_long column hs (All-tail (λ (h : Held). h.width column ≡ 1) h hs wide) (All-tail (λ (h : Held). length (h.pieces.first column) ≡ h.rows * h.width column) h hs long) in
-    omega (arith, length-append (h.pieces.first column) (flat_map (λ (h : Held). h.pieces.first column) hs), same, rest)
+-- so many cells a row
+pub cells_long : (column w : ℕ) (hs : List Held) → All (λ (h : Held). h.width column ≡ w) hs → All (λ (h : Held). length (h.pieces.first column) ≡ h.rows * h.width column) hs
+    → length (flat_map (λ (h : Held). h.pieces.first column) hs) ≡ total (λ (h : Held). h.rows) hs * w
+cells_long column w [] wide long = omega arith
+cells_long column w (h ∷ hs) wide long =
+    let here : length (h.pieces.first column) ≡ h.rows * w = long 0 h (omega arith) ∙ ap (λ (n : ℕ). h.rows * n) (wide 0 h (omega arith)) in
+    let rest = cells_long column w hs (All-tail (λ (h : Held). h.width column ≡ w) h hs wide) (All-tail (λ (h : Held). length (h.pieces.first column) ≡ h.rows * h.width column) h hs long) in
+    let more : (h.rows + total (λ (h : Held). h.rows) hs) * w ≡ h.rows * w + total (λ (h : Held). h.rows) hs * w = omega arith in
+    omega (arith, length-append (h.pieces.first column) (flat_map (λ (h : Held). h.pieces.first column) hs), here, rest, more)
 
 -- what a shelf holds that is as it was
 pub held_at : {S : Type 0} (held : S → Held) (old now : List S) (i : ℕ) (d : S) → map held now ≡ map held old → i < length now → held (get_or now i d) ≡ held (get_or old i d)
@@ -128,12 +127,13 @@ lists_more held f old i d h is =
 pub lists_all : {S : Type 0} (held : S → Held) (f : Held → List ℕ) (old : List S) (i : ℕ) → length old ≤ i → flat_map f (take i (map held old)) ≡ flat_map f (map held old)
 lists_all held f old i h = ap (flat_map f) (take_all i (map held old) (omega (arith, length-map old held)))
 
--- one value a row of a server
-pub values_together : {S : Type 0} (held : S → Held) (widths : Widths) (rows : ℕ) (xs : List S) → AreShelves widths rows (map held xs) → All (λ s. IsShelf (held s)) xs
-    → length ((pieces_of (map held xs)).first widths.columns) ≡ rows
-values_together held widths rows xs are shelves =
-    let parts = are_parts widths rows (map held xs) widths.columns (omega arith) are (All-map IsShelf held xs shelves) in
-    values_long widths.columns (map held xs) (λ k d h. parts.wide k d h ∙ width_last widths) parts.long ∙ are.count
+-- the cells of a server's rows
+pub cells_together : {S : Type 0} (held : S → Held) (widths : Widths) (rows : ℕ) (xs : List S) (column : ℕ) → column ≤ widths.columns
+    → AreShelves widths rows (map held xs) → All (λ s. IsShelf (held s)) xs
+    → length ((pieces_of (map held xs)).first column) ≡ rows * width_of widths column
+cells_together held widths rows xs column b are shelves =
+    let parts = are_parts widths rows (map held xs) column b are (All-map IsShelf held xs shelves) in
+    cells_long column (width_of widths column) (map held xs) parts.wide parts.long ∙ ap (λ (n : ℕ). n * width_of widths column) are.count
 
 -- rows that were counted in a list that is lent
 pub counted : {S : Type 0} (held : S → Held) (xs lent : List S) (n : ℕ) → n ≡ total (λ s. (held s).rows) lent → lent ≡ xs → n ≡ total (λ (h : Held). h.rows) (map held xs)

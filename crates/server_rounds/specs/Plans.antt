@@ -6,6 +6,7 @@ use Rattle.query_plan.specs.Query.{shaped}
 use Rattle.query_plan.specs.Views.{View}
 use Rattle.transcript.specs.Setup.{Sizes, count_of, column_of}
 use Rattle.server_rounds.specs.declared.keys.ThreeKeys.{ThreeKeys}
+use Rattle.zero_share.specs.declared.seeds.ZeroSeeds.{ZeroSeeds}
 use Rattle.server_rounds.specs.Groups.{by_server}
 
 -- at most 65536 rows, and 1 to 4 predicates on columns that are there
@@ -26,6 +27,15 @@ pub record HaveTables (z : Sizes) (keys : ThreeKeys) : Type 0 where
   pub zero : HasTables z keys.zero
   pub one : HasTables z keys.one
   pub two : HasTables z keys.two
+
+-- these are the seeds of the servers' zero parts
+pub record AreZeros (keys : ThreeKeys) (zero one two : ZeroSeeds) : Type 0 where
+  pub zero_own : zero.own ≡ keys.zero.own
+  pub zero_next : zero.next ≡ keys.zero.next
+  pub one_own : one.own ≡ keys.one.own
+  pub one_next : one.next ≡ keys.one.next
+  pub two_own : two.own ≡ keys.two.own
+  pub two_next : two.next ≡ keys.two.next
 
 -- what each server read
 abbrev pub views_of : ThreeKeys → ℕ → View

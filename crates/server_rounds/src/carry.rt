@@ -11,7 +11,7 @@ use wire_line::{Peer, Wire};
 
 /// A list of words for each of the three servers.
 #[derive(Drop)]
-pub(crate) struct Trio {
+pub struct Trio {
     pub zero: Words,
     pub one: Words,
     pub two: Words,
@@ -44,7 +44,7 @@ fn carry<W: Wire>(wire: &mut W, sender: Peer, receiver: Peer, words: Words) -> R
 }
 
 /// Carries the three messages of a step, and gives what was received.
-pub(crate) fn carry_three<W: Wire>(wire: &mut W, way: Way, words: Trio) -> Result<Trio, Memory>
+pub fn carry_three<W: Wire>(wire: &mut W, way: Way, words: Trio) -> Result<Trio, Memory>
     ensures long { IfOk result (λ got. AsLong got.zero got.one got.two words.zero words.one words.two) }
     ensures messages { (ms : List Message) × Went W.told W.alterations W.passes wire.old ms wire.new
         × IsGroup way (by_server words.zero words.one words.two) ms

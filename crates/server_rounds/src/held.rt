@@ -15,7 +15,7 @@ use wire_line::Wire;
 
 /// The pairs of three servers.
 #[derive(Drop)]
-pub(crate) struct Held {
+pub struct Held {
     zero: PairList,
     one: PairList,
     two: PairList,
@@ -35,7 +35,7 @@ impl Model for Held {
 
 impl Held {
     /// The pairs of server 0.
-    pub(crate) fn zero(&self) -> &PairList
+    pub fn zero(&self) -> &PairList
         ensures first { result.now.first ≡ self.now.zero.first }
         ensures second { result.now.second ≡ self.now.zero.second }
     {
@@ -43,7 +43,7 @@ impl Held {
     }
 
     /// The pairs of server 1.
-    pub(crate) fn one(&self) -> &PairList
+    pub fn one(&self) -> &PairList
         ensures first { result.now.first ≡ self.now.one.first }
         ensures second { result.now.second ≡ self.now.one.second }
     {
@@ -51,7 +51,7 @@ impl Held {
     }
 
     /// The pairs of server 2.
-    pub(crate) fn two(&self) -> &PairList
+    pub fn two(&self) -> &PairList
         ensures first { result.now.first ≡ self.now.two.first }
         ensures second { result.now.second ≡ self.now.two.second }
     {
@@ -60,7 +60,7 @@ impl Held {
 }
 
 /// Each server sends its words to the one before it, and then holds them beside those that it received.
-pub(crate) fn reshare<W: Wire>(alloc: Global, wire: &mut W, words: Trio) -> Result<Held, Memory>
+pub fn reshare<W: Wire>(alloc: Global, wire: &mut W, words: Trio) -> Result<Held, Memory>
     requires one { length words.one ≡ length words.zero }
     requires two { length words.two ≡ length words.zero }
     ensures long { IfOk result (λ held. AreLong (length words.zero) held) }

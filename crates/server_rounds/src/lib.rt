@@ -35,11 +35,15 @@ mod shelves;
 mod way;
 
 pub use bits::Bits;
+pub use carry::{Trio, carry_three};
+pub use held::{Held, reshare};
 pub use opened::{Opened, OpenedPair};
+pub use part::with_zeros;
 pub use product::Product;
 pub use ready::Ready;
-pub use run::both_runs;
+pub use run::{both_runs, run_products};
 pub use servers::Servers;
+pub use shelves::count_rows;
 pub use way::Way;
 
 #[cfg(test)]

@@ -20,8 +20,8 @@ use std::thread::Threads;
 use table_schema::Aggregate;
 use zero_share::ZeroSeeds;
 
-// The numbers, each with a zero part, whose counters begin at `start`.
-fn with_zeros(numbers: Words, zeros: &ZeroSeeds, start: u64) -> Words
+/// The numbers, each with a zero part, whose counters begin at `start`.
+pub fn with_zeros(numbers: Words, zeros: &ZeroSeeds, start: u64) -> Words
     requires { start + length numbers ≤ 2 ^ 64 }
     ensures { result ≡ sums numbers (parts_of zeros.now.own zeros.now.next start (length numbers)) }
 {
@@ -30,8 +30,8 @@ fn with_zeros(numbers: Words, zeros: &ZeroSeeds, start: u64) -> Words
     Words::from_vec(words)
 }
 
-// The seeds of a server's zero parts.
-fn seeds_of(keys: &ServerKeys) -> ZeroSeeds
+/// The seeds of a server's zero parts.
+pub(crate) fn seeds_of(keys: &ServerKeys) -> ZeroSeeds
     ensures own { result.own ≡ keys.now.own }
     ensures next { result.next ≡ keys.now.next }
 {

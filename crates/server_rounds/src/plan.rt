@@ -75,6 +75,13 @@ impl Plan {
         self.rows
     }
 
+    /// The widths of the rows.
+    pub(crate) fn widths(&self) -> Widths
+        ensures { result ≡ self.now.widths }
+    {
+        self.widths
+    }
+
     /// Whether values are summed, or rows counted.
     pub(crate) fn aggregate(&self) -> Aggregate
         ensures { result ≡ self.now.shape.aggregate }

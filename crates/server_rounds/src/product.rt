@@ -80,6 +80,16 @@ impl Product {
         })
     }
 
+    /// What the servers hold after the last predicate, which is the product of all bits: a run may end otherwise than by `reveal`.
+    pub fn into_chain(self) -> Held
+        requires { self.j + 1 ≡ count_of self.plan }
+        ensures chain { result ≡ self.chain }
+        ensures long { AreLong self.plan.rows self.chain }
+    {
+        let Product { chain, .. } = self;
+        chain
+    }
+
     /// The opening, with what the servers read when the run began: each server sends its share of the count, or of the sum, to
     /// the client, which adds up what it received. The only error is want of memory; the first of these messages may then have
     /// been carried.

@@ -1,8 +1,9 @@
-ghost use Rattle.std.specs.Prelude.{◌≡◌, ◌<◌, ◌≤◌, List, None, map, length, IfOk};
+ghost use Rattle.std.specs.Prelude.{◌≡◌, ◌*◌, ◌<◌, ◌≤◌, List, None, map, length, IfOk};
+ghost use Rattle.onehot_column.specs.Code.{width_of};
 ghost use Rattle.wire_line.specs.declared.message.Message.{Message};
 ghost use Rattle.wire_line.specs.Messages.{Went};
 ghost use Rattle.server_rounds.specs.Groups.{by_server, AreReshared, IsGroup};
-ghost use Rattle.server_rounds.specs.Plans.{HaveTables, read_for, sizes_for, views_of, words_for};
+ghost use Rattle.server_rounds.specs.Plans.{AreZeros, HaveTables, read_for, sizes_for, views_of, words_for};
 ghost use Rattle.server_rounds.specs.Rounds.{bits_of};
 ghost use Rattle.server_rounds.specs.Runs.{HaveRead};
 ghost use Rattle.server_rounds.specs.Shelves.{AreShelves, pieces_of};
@@ -10,23 +11,32 @@ ghost use Rattle.server_rounds.specs.Shelves.{AreShelves, pieces_of};
 use crate::bits::Bits;
 use crate::carry::{Trio, carry_three};
 use crate::keys::ThreeKeys;
+use crate::part::seeds_of;
 use crate::plan::Plan;
 use crate::rounds::bits_round;
 use crate::servers::Servers;
+use crate::shelves::read_cells;
 use crate::way::Way;
 use query_plan::Keys;
+use replicated_share::PairList;
 use ring128::Memory;
 use scan_chunks::Shelf;
 use std::alloc::Global;
 use std::thread::Threads;
+use table_schema::{Aggregate, Widths};
 use wire_line::Wire;
+use zero_share::ZeroSeeds;
 
 /// What the three servers read from their key messages, and from which both runs begin.
 #[derive(Drop)]
 pub struct Ready {
     pub(crate) plan: Plan,
     pub(crate) keys: ThreeKeys,
+    zero: ZeroSeeds,
+    one: ZeroSeeds,
+    two: ZeroSeeds,
     ghost tables: { HaveTables plan keys },
+    ghost zeros: { AreZeros keys zero one two },
 }
 
 impl Ready {
@@ -52,12 +62,74 @@ impl Ready {
         let zero_read = plan.read_keys(alloc, &got.zero)?;
         let one_read = plan.read_keys(alloc, &got.one)?;
         let two_read = plan.read_keys(alloc, &got.two)?;
+        let zero_seeds = seeds_of(&zero_read);
+        let one_seeds = seeds_of(&one_read);
+        let two_seeds = seeds_of(&two_read);
         let keys = ThreeKeys {
             zero: zero_read,
             one: one_read,
             two: two_read,
         };
-        Ok(Ready { plan, keys })
+        Ok(Ready {
+            plan,
+            keys,
+            zero: zero_seeds,
+            one: one_seeds,
+            two: two_seeds,
+        })
+    }
+
+    /// The two seeds of zero parts that server 0, 1 or 2 received: its own, and the next server's.
+    pub fn zero(&self, server: u8) -> &ZeroSeeds
+        requires { server < 3 }
+        ensures own { result.now.own ≡ (views_of self.now.keys server).own }
+        ensures next { result.now.next ≡ (views_of self.now.keys server).next }
+    {
+        match server {
+            0 => &self.zero,
+            1 => &self.one,
+            _ => &self.two,
+        }
+    }
+
+    /// How many rows the run is over.
+    pub fn rows(&self) -> u64
+        ensures value { result ≡ self.now.plan.rows }
+        ensures few { result ≤ 65536 }
+    {
+        self.plan.rows()
+    }
+
+    /// The widths of the rows.
+    pub fn widths(&self) -> Widths
+        ensures { result ≡ self.now.plan.widths }
+    {
+        self.plan.widths()
+    }
+
+    /// Whether values are summed, or rows counted.
+    pub fn aggregate(&self) -> Aggregate
+        ensures { result ≡ self.now.plan.shape.aggregate }
+    {
+        self.plan.aggregate()
+    }
+
+    /// The pairs of a server's rows at a column, row after row; the value's column is the last one. The only error is want of memory.
+    pub fn cells<S: Shelf>(
+        &self,
+        alloc: Global,
+        shelves: &mut Vec<S>,
+        column: u8,
+    ) -> Result<PairList, Memory>
+        requires shelves { AreShelves self.now.plan.widths self.now.plan.rows (map S.held shelves.old.items) }
+        requires column { column ≤ self.now.plan.widths.columns }
+        ensures held { map S.held shelves.new.items ≡ map S.held shelves.old.items }
+        ensures first { IfOk result (λ p. p.first ≡ (pieces_of (map S.held shelves.old.items)).first column) }
+        ensures second { IfOk result (λ p. p.second ≡ (pieces_of (map S.held shelves.old.items)).second column) }
+        ensures long { IfOk result (λ p. length p.first ≡ self.now.plan.rows * width_of self.now.plan.widths column) }
+    {
+        let cells = read_cells(alloc, &self.plan, shelves, column)?;
+        Ok(cells)
     }
 
     /// The bits of the first predicate in run 0 or 1: the servers scan their shelves and send each other their words. The only

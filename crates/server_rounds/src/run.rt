@@ -2,12 +2,13 @@
 ghost use Rattle.std.specs.Prelude.{◌≡◌, ◌<◌, ◌≤◌, ◌+◌, List, map, IfOk};
 ghost use Rattle.wire_line.specs.declared.message.Message.{Message};
 ghost use Rattle.wire_line.specs.Messages.{Went};
-ghost use Rattle.transcript.specs.Setup.{count_of, setup_for};
+ghost use Rattle.transcript.specs.Setup.{Ending, count_of};
+ghost use Rattle.transcript.specs.Formulas.{setup_for, total_ending};
 ghost use Rattle.transcript.specs.Transcript.{IsPart, IsTranscript, opened_of};
 ghost use Rattle.server_rounds.specs.Groups.{by_server, AreReshared, IsGroup};
 ghost use Rattle.server_rounds.specs.Plans.{views_of};
 ghost use Rattle.server_rounds.specs.Rounds.{bits_of};
-ghost use Rattle.server_rounds.specs.Runs.{IsPredicatePart, IsRun, IsRunPart};
+ghost use Rattle.server_rounds.specs.Runs.{HaveProducts, IsPredicatePart, IsRun, IsRunPart};
 ghost use Rattle.server_rounds.specs.Shelves.{AreShelves, pieces_of, rows_of};
 ghost use Rattle.server_rounds.specs.declared.way.Way.TheVariants.{Around};
 
@@ -84,6 +85,41 @@ fn next_predicate<R: Threads + Sync, S: Shelf + Send, W: Wire>(
     Ok(product)
 }
 
+/// The bits and the products of a run, for all its predicates, however the run then ends. The only error is want of memory; the
+/// messages carried by then are the first ones of the run.
+pub fn run_products<R: Threads + Sync, S: Shelf + Send, W: Wire>(
+    rt: &R,
+    alloc: Global,
+    ready: &Ready,
+    run: u8,
+    shelves: &mut Servers<S>,
+    wire: &mut W,
+) -> Result<Product, Memory>
+    requires run { run < 2 }
+    requires zero { AreShelves ready.now.plan.widths ready.now.plan.rows (map S.held shelves.old.zero.items) }
+    requires one { AreShelves ready.now.plan.widths ready.now.plan.rows (map S.held shelves.old.one.items) }
+    requires two { AreShelves ready.now.plan.widths ready.now.plan.rows (map S.held shelves.old.two.items) }
+    ensures zero { map S.held shelves.new.zero.items ≡ map S.held shelves.old.zero.items }
+    ensures one { map S.held shelves.new.one.items ≡ map S.held shelves.old.one.items }
+    ensures two { map S.held shelves.new.two.items ≡ map S.held shelves.old.two.items }
+    ensures plan { IfOk result (λ p. p.plan ≡ ready.now.plan) }
+    ensures run { IfOk result (λ p. p.run ≡ run) }
+    ensures last { IfOk result (λ p. p.j + 1 ≡ count_of ready.now.plan) }
+    ensures messages { let pieces = by_server (pieces_of (map S.held shelves.old.zero.items))
+        (pieces_of (map S.held shelves.old.one.items)) (pieces_of (map S.held shelves.old.two.items)) in
+        let views = views_of ready.now.keys in
+        (ms : List Message) × Went W.told W.alterations W.passes wire.old ms wire.new
+        × ((ending : Ending) → IsRunPart ready.now.plan ending pieces run views ms)
+        × IfOk result (λ p. HaveProducts ready.now.plan pieces run views (count_of ready.now.plan) p.chain ms) }
+{
+    let count = ready.plan.count();
+    let mut product = first_predicate(rt, alloc, ready, run, shelves, wire)?;
+    for _j in 1..count {
+        product = next_predicate(rt, alloc, ready, product, shelves, wire)?;
+    }
+    Ok(product)
+}
+
 // A run, and what the client opened in it.
 fn run_once<R: Threads + Sync, S: Shelf + Send, W: Wire>(
     rt: &R,
@@ -100,19 +136,15 @@ fn run_once<R: Threads + Sync, S: Shelf + Send, W: Wire>(
     ensures zero { map S.held shelves.new.zero.items ≡ map S.held shelves.old.zero.items }
     ensures one { map S.held shelves.new.one.items ≡ map S.held shelves.old.one.items }
     ensures two { map S.held shelves.new.two.items ≡ map S.held shelves.old.two.items }
-    ensures some { 0 < count_of ready.now.plan }
+    ensures some { IfOk result (λ _. 0 < count_of ready.now.plan) }
     ensures messages { let pieces = by_server (pieces_of (map S.held shelves.old.zero.items))
         (pieces_of (map S.held shelves.old.one.items)) (pieces_of (map S.held shelves.old.two.items)) in
         let views = views_of ready.now.keys in
         (ms : List Message) × Went W.told W.alterations W.passes wire.old ms wire.new
-        × IsRunPart ready.now.plan pieces run views ms
-        × IfOk result (λ total. IsRun ready.now.plan pieces run views ms total) }
+        × IsRunPart ready.now.plan (total_ending ready.now.plan) pieces run views ms
+        × IfOk result (λ total. IsRun ready.now.plan (total_ending ready.now.plan) pieces run views ms 0 total) }
 {
-    let count = ready.plan.count();
-    let mut product = first_predicate(rt, alloc, ready, run, shelves, wire)?;
-    for _j in 1..count {
-        product = next_predicate(rt, alloc, ready, product, shelves, wire)?;
-    }
+    let product = run_products(rt, alloc, ready, run, shelves, wire)?;
     let opened = product.reveal(alloc, ready, shelves, wire)?;
     Ok(opened.total)
 }

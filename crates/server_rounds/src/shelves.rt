@@ -1,5 +1,5 @@
 //! What a server does with its shelves.
-ghost use Rattle.std.specs.Prelude.{◌≡◌, ◌<◌, ◌≤◌, map, length, All, IfOk};
+ghost use Rattle.std.specs.Prelude.{◌≡◌, ◌*◌, ◌<◌, ◌≤◌, map, length, All, IfOk};
 ghost use Rattle.list_facts.specs.Count.{total};
 ghost use Rattle.list_facts.specs.Listed.{listed};
 ghost use Rattle.scan_chunks.specs.Shelf.{IsShelf};
@@ -15,7 +15,7 @@ use std::alloc::Global;
 use std::thread::Threads;
 
 /// How many rows shelves have together. Each says of itself that its columns are as long as its rows are wide.
-pub(crate) fn count_rows<S: Shelf>(shelves: &[S]) -> u64
+pub fn count_rows<S: Shelf>(shelves: &[S]) -> u64
     requires { total (λ s. (S.held s).rows) shelves.now ≤ 65536 }
     ensures count { result ≡ total (λ s. (S.held s).rows) shelves.now }
     ensures shelves { All (λ s. IsShelf (S.held s)) shelves.now }
@@ -61,6 +61,34 @@ pub(crate) fn scan_rows<R: Threads + Sync, S: Shelf + Send>(
     Ok(numbers)
 }
 
+/// The pairs of a server's rows at a column, row after row; the value's column is the last one.
+pub(crate) fn read_cells<S: Shelf>(
+    alloc: Global,
+    plan: &Plan,
+    shelves: &mut Vec<S>,
+    column: u8,
+) -> Result<PairList, Memory>
+    requires shelves { AreShelves plan.now.widths plan.now.rows (map S.held shelves.old.items) }
+    requires column { column ≤ plan.now.widths.columns }
+    ensures held { map S.held shelves.new.items ≡ map S.held shelves.old.items }
+    ensures first { IfOk result (λ p. p.first ≡ (pieces_of (map S.held shelves.old.items)).first column) }
+    ensures second { IfOk result (λ p. p.second ≡ (pieces_of (map S.held shelves.old.items)).second column) }
+    ensures long { IfOk result (λ p. length p.first ≡ plan.now.rows * width_of plan.now.widths column) }
+{
+    let rows = rows_together(plan, shelves.as_slice()) as usize;
+    let mut first = Vec::with_capacity(alloc, rows)?;
+    let mut second = Vec::with_capacity(alloc, rows)?;
+    for i in 0..shelves.len() {
+        let values = read_column(alloc, &mut shelves[i], column)?;
+        first.extend_from_slice(values.first.as_slice())?;
+        second.extend_from_slice(values.second.as_slice())?;
+    }
+    Ok(PairList {
+        first: Words::from_vec(first),
+        second: Words::from_vec(second),
+    })
+}
+
 /// The pairs of the values of a server's rows.
 pub(crate) fn read_values<S: Shelf>(
     alloc: Global,
@@ -73,17 +101,6 @@ pub(crate) fn read_values<S: Shelf>(
     ensures second { IfOk result (λ p. p.second ≡ (pieces_of (map S.held shelves.old.items)).second plan.now.widths.columns) }
     ensures long { IfOk result (λ p. length p.first ≡ plan.now.rows) }
 {
-    let rows = rows_together(plan, shelves.as_slice()) as usize;
-    let column = plan.value();
-    let mut first = Vec::with_capacity(alloc, rows)?;
-    let mut second = Vec::with_capacity(alloc, rows)?;
-    for i in 0..shelves.len() {
-        let values = read_column(alloc, &mut shelves[i], column)?;
-        first.extend_from_slice(values.first.as_slice())?;
-        second.extend_from_slice(values.second.as_slice())?;
-    }
-    Ok(PairList {
-        first: Words::from_vec(first),
-        second: Words::from_vec(second),
-    })
+    let values = read_cells(alloc, plan, shelves, plan.value())?;
+    Ok(values)
 }

@@ -1,5 +1,6 @@
 -- Laws of cutting a text.
-use Rattle.std.proofs.Common.{◌≡◌, refl, ap, ℕ, suc, ◌+◌, ◌<◌, Bool, true, false, eqb, List, [], ◌∷◌, length, drop, get_or, Some, arith, drop-cons, add-one}
+use Rattle.std.proofs.lemmas.Bool.{eqb-true, eq-eqb}
+use Rattle.std.proofs.Common.{take-append-drop, ◌≡◌, ◌∙◌, ◌++◌, take, sym, refl, ap, ℕ, suc, ◌+◌, ◌<◌, Bool, true, false, eqb, List, [], ◌∷◌, length, drop, get_or, Some, arith, drop-cons, add-one}
 use Rattle.std.specs.List.{onto_first}
 use Rattle.text_reading.specs.Cut.{cut_at, pieces, pieces_left}
 
@@ -38,3 +39,33 @@ cut_hit mark i bs lt e = rw (drop-cons bs i 0 lt, e) (rw add-one refl)
 pub cut_miss : (mark i : ℕ) (bs : List ℕ) → i < length bs → eqb (get_or bs i 0) mark ≡ false
     → cut_at mark (drop i bs) ≡ (get_or bs i 0 ∷ (cut_at mark (drop (i + 1) bs)).0, (cut_at mark (drop (i + 1) bs)).1)
 cut_miss mark i bs lt e = rw (drop-cons bs i 0 lt, e) (rw add-one refl)
+
+onto_append : (x : ℕ) (ps qs : List (List ℕ)) → 0 < length ps → onto_first x (ps ++ qs) ≡ onto_first x ps ++ qs
+onto_append x [] qs h = absurd (omega (arith, h))
+onto_append x (p ∷ ps) qs h = refl
+
+-- the pieces of what stands on both sides of a mark
+pub pieces_append : (mark : ℕ) (xs ys : List ℕ) → pieces mark (xs ++ mark ∷ ys) ≡ pieces mark xs ++ pieces mark ys
+pieces_append mark [] ys = let yes : eqb mark mark ≡ true = eq-eqb mark mark refl in rw yes refl
+pieces_append mark (x ∷ xs) ys = by (eqb x mark) refl (pieces_append mark xs ys)
+  where
+    by : (t : Bool) → eqb x mark ≡ t → pieces mark (xs ++ mark ∷ ys) ≡ pieces mark xs ++ pieces mark ys
+        → pieces mark (x ∷ xs ++ mark ∷ ys) ≡ pieces mark (x ∷ xs) ++ pieces mark ys
+    by true e h = rw (e, h) refl
+    by false e h = rw (e, h) (onto_append x (pieces mark xs) (pieces mark ys) (some_piece mark xs))
+
+-- a text without a mark from a place on is one piece there
+pub last_miss : (mark i : ℕ) (bs : List ℕ) → i < length bs → eqb (get_or bs i 0) mark ≡ false → pieces mark (drop (i + 1) bs) ≡ drop (i + 1) bs ∷ []
+    → pieces mark (drop i bs) ≡ drop i bs ∷ []
+last_miss mark i bs lt e h =
+    let g : pieces mark (drop (suc i) bs) ≡ drop (suc i) bs ∷ [] = rw add-one at h in
+    rw (drop-cons bs i 0 lt, e) (rw g refl)
+
+-- behind its last mark a text has one piece
+pub last_hit : (mark i : ℕ) (bs : List ℕ) → i < length bs → eqb (get_or bs i 0) mark ≡ true → pieces mark (drop (i + 1) bs) ≡ drop (i + 1) bs ∷ []
+    → pieces mark bs ≡ pieces mark (take i bs) ++ drop (i + 1) bs ∷ []
+last_hit mark i bs lt e h =
+    let is : get_or bs i 0 ≡ mark = eqb-true (get_or bs i 0) mark e in
+    let more : drop i bs ≡ mark ∷ drop (i + 1) bs = drop-cons bs i 0 lt ∙ rw (is, add-one) refl in
+    ap (pieces mark) (sym (take-append-drop i bs) ∙ ap (λ (l : List ℕ). take i bs ++ l) more)
+    ∙ pieces_append mark (take i bs) (drop (i + 1) bs) ∙ ap (λ (l : List (List ℕ)). pieces mark (take i bs) ++ l) h

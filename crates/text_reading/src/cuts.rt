@@ -1,6 +1,6 @@
-ghost use Rattle.std.specs.Prelude.{◌≡◌, ◌<◌, IfSome, length};
+ghost use Rattle.std.specs.Prelude.{◌++◌, [], ◌∷◌, ◌≡◌, ◌<◌, IfSome, length};
 ghost use Rattle.std.specs.Option.{option_copied};
-ghost use Rattle.text_reading.specs.Cut.{cut_at, pieces};
+ghost use Rattle.text_reading.specs.Cut.{cut_at, pieces, pieces_left};
 
 /// What stands before the first mark, or all of the text, and what stands after it, where there is one.
 /// Both are parts of the text itself.
@@ -17,6 +17,22 @@ pub fn cut(bytes: &[u8], mark: u8) -> (&[u8], Option<&[u8]>)
         }
     }
     (bytes, None)
+}
+
+/// What stands before the last mark, where there is one, and what stands after it, or all of the text. Both are parts of the text
+/// itself.
+#[tactic(auto, using(crate::proofs::CutLaws::last_hit, crate::proofs::CutLaws::last_miss))]
+pub fn cut_last(bytes: &[u8], mark: u8) -> (Option<&[u8]>, &[u8])
+    ensures { pieces mark bytes.now ≡ pieces_left mark (option_copied result.0) ++ result.1.now ∷ [] }
+{
+    let mut end = bytes.len();
+    while end > 0 {
+        end -= 1;
+        if bytes[end] == mark {
+            return (Some(&bytes[..end]), &bytes[end + 1..]);
+        }
+    }
+    (None, bytes)
 }
 
 /// How many pieces a text has that is cut at each mark: one more than it has marks.

@@ -24,7 +24,7 @@
 mod cuts;
 mod numbers;
 
-pub use cuts::{count_pieces, cut};
+pub use cuts::{count_pieces, cut, cut_last};
 pub use numbers::number;
 
 #[cfg(test)]

@@ -24,22 +24,22 @@ use Rattle.query_plan.specs.declared.query.Predicate.{Predicate}
 use Rattle.query_plan.specs.declared.query.Query.{Query}
 use Rattle.query_plan.specs.Query.{predicate_at, shaped, no_predicate, Suits, IsPlaced}
 use Rattle.query_plan.specs.Query.{part_of as part_of_predicate}
-use Rattle.transcript.specs.Setup.{Setup, count_of, column_of}
+use Rattle.transcript.specs.Setup.{Setup, Ending, count_of, column_of}
 use Rattle.transcript.specs.Steps.{Step, bits, product, opening, counter_of, chain_step, after}
-use Rattle.transcript.specs.Formulas.{product_words, opening_share}
-use Rattle.transcript.specs.Transcript.{opened_of}
+use Rattle.transcript.specs.Formulas.{product_words, opening_share, words_of, total_ending}
+use Rattle.transcript.specs.Transcript.{opened_of, opened_at}
 use Rattle.query_plan.specs.Views.{IsTablePair, weight_inside}
 use Rattle.transcript.specs.Shifts.{shift_of, shifted_chain, row_bit, no_row, chain_sum, ShiftedOpen}
 use Rattle.transcript.proofs.Sums.{total_of-sums3}
 use Rattle.transcript.proofs.Steps.{bits_shares, bits_of_rows, openings_add_up}
 use Rattle.transcript.proofs.Places.{IsStep-chain}
-use Rattle.transcript.proofs.Shares.{IsCase, share, base, base_is, message_of, got_other, client_apart, three_chain, three_bits, share_long, sent_chain_long}
+use Rattle.transcript.proofs.Shares.{IsCase, share, share_seat, base, base_is, message_of, got_other, client_apart, three_chain, three_bits, share_long, sent_chain_long}
 
 -- the shape says how many predicates there are, whether values are summed, and each predicate's column
 pub count_is : (s : Setup) (query : Query) → s.sizes.shape ≡ shaped query → count_of s.sizes ≡ query.count
 count_is s query e = ap (λ (shape : Shape). shape.count) e
 
-aggregate_is : (s : Setup) (query : Query) → s.sizes.shape ≡ shaped query → s.sizes.shape.aggregate ≡ query.aggregate
+pub aggregate_is : (s : Setup) (query : Query) → s.sizes.shape ≡ shaped query → s.sizes.shape.aggregate ≡ query.aggregate
 aggregate_is s query e = ap (λ (shape : Shape). shape.aggregate) e
 
 part_at : (ps : List Predicate) (j : ℕ) → get_or (map part_of_predicate ps) j (part_of_predicate no_predicate) ≡ part_of_predicate (get_or ps j no_predicate)
@@ -51,7 +51,7 @@ column_is : (s : Setup) (query : Query) → s.sizes.shape ≡ shaped query → (
 column_is s query e j =
     ap (λ (shape : Shape). (get_or shape.parts j (part_of_predicate no_predicate)).column) e ∙ ap (λ (part : Part). part.column) (part_at query.predicates j)
 
-column_there : (columns : ℕ) (widths : List ℕ) (query : Query) (j : ℕ) → Suits columns widths query → j < query.count → (predicate_at query j).column < columns
+pub column_there : (columns : ℕ) (widths : List ℕ) (query : Query) (j : ℕ) → Suits columns widths query → j < query.count → (predicate_at query j).column < columns
 column_there columns widths query j suits h =
     let yes : ltb j query.count ≡ true = lt-ltb j query.count h in
     let placed : IsPlaced columns widths query j = suits.placed j (omega (arith, suits.few)) in
@@ -103,7 +103,7 @@ length-code_at w column row =
     (λ (no : eqb column w.columns ≡ false). rw no (length-listed _ _))
     (cases_Bool (eqb column w.columns))
 
-length-codes : (w : Widths) (column : ℕ) (rows : List Row) → length (flat_map (code_at w column) rows) ≡ length rows * width_of w column
+pub length-codes : (w : Widths) (column : ℕ) (rows : List Row) → length (flat_map (code_at w column) rows) ≡ length rows * width_of w column
 length-codes w column [] = omega arith
 length-codes w column (row ∷ rows) =
     let more : suc (length rows) * width_of w column ≡ width_of w column + length rows * width_of w column = omega arith in
@@ -196,7 +196,7 @@ base_product_is s query weights rows ms run server g j k h b =
     ∙ ap (λ (i : ℕ). product_words s.sizes run (s.read (s.keys k)) (suc j) (share s ms server run (chain_step i) k) (share s ms server run (chain_step i) (after k)) (d k) (d (after k))) one_less
     ∙ rw (g.asks.keys.seeds k b)
 
-chain_total : (s : Setup) (query : Query) (weights : ℕ → ℕ → ℕ) (rows : List Row) (ms : List Message) (run server : ℕ)
+pub chain_total : (s : Setup) (query : Query) (weights : ℕ → ℕ → ℕ) (rows : List Row) (ms : List Message) (run server : ℕ)
     → IsCase s query weights rows ms run server → (j : ℕ) → j < count_of s.sizes
     → sums3 (share s ms server run (chain_step j) 0) (share s ms server run (chain_step j) 1) (share s ms server run (chain_step j) 2)
     ≡ listed s.sizes.rows (shifted_chain (row_bit query (weights run) rows) (shift_of s ms server run) j)
@@ -214,7 +214,7 @@ chain_total s query weights rows ms run server g (suc j) h =
     let bit = λ (i : ℕ). plus (row_bit query (weights run) rows (suc j) i) (shift_of s ms server run (bits (suc j)) i) in
     let words = λ (k : ℕ) (b : k < 3). base_product_is s query weights rows ms run server g j k h b in
     let long = λ (k : ℕ) (b : k < 3).
-    ap length (words k b) ∙ length-listed _ _ ∙ share_long s ms run server (chain_step j) k g.two g.transcript (IsStep-chain (count_of s.sizes) j early) b (sent_chain_long s ms run j k g.two g.transcript early b) in
+    ap length (words k b) ∙ length-listed _ _ ∙ share_long s ms run server (chain_step j) k g.two g.transcript (IsStep-chain (count_of s.sizes) s.ending.further j early) b (sent_chain_long s ms run j k g.two g.transcript early b) in
     shares_total s ms run server (product (suc j)) (λ i. times (chain i) (bit i)) g.three (three_chain s ms run server (suc j) g.two g.transcript h)
     (record { first = long 0 (omega arith); second = long 1 (omega arith); third = long 2 (omega arith) })
     (λ i b.
@@ -233,21 +233,22 @@ shares_open Count n c0 c1 c2 v0 v1 v2 p q r x y =
 shares_open Sum n c0 c1 c2 v0 v1 v2 p q r x y =
     openings_add_up (opening_share Sum c0 c1 v0 v1) (opening_share Sum c1 c2 v1 v2) (opening_share Sum c2 c0 v2 v0) p q r ∙ inners_add_up n c0 c1 c2 v0 v1 v2 x y
 
-codes_are_values : (w : Widths) (rows : List Row) → flat_map (code_at w w.columns) rows ≡ map (λ (row : Row). word_of row.value) rows
+pub codes_are_values : (w : Widths) (rows : List Row) → flat_map (code_at w w.columns) rows ≡ map (λ (row : Row). word_of row.value) rows
 codes_are_values w [] = refl
 codes_are_values w (row ∷ rows) = rw (eq-eqb w.columns w.columns refl, codes_are_values w rows)
 
 -- the opening by the formula
 base_opening_is : (s : Setup) (query : Query) (weights : ℕ → ℕ → ℕ) (rows : List Row) (ms : List Message) (run server : ℕ)
-    → IsCase s query weights rows ms run server → (k : ℕ) → 0 < count_of s.sizes → k < 3
+    → IsCase s query weights rows ms run server → s.ending ≡ total_ending s.sizes → (k : ℕ) → 0 < count_of s.sizes → k < 3
     → let c = λ (k : ℕ). share s ms server run (chain_step (count_of s.sizes - 1)) k in
     let v = λ (k : ℕ). (s.pieces k).first s.sizes.widths.columns in
     get_or (base s ms server run opening k) 0 0
     ≡ plus (opening_share s.sizes.shape.aggregate (c k) (c (after k)) (v k) (v (after k)))
     (part_of (s.read (s.keys k)).own (s.read (s.keys (after k))).own (counter_of (count_of s.sizes) run opening))
-base_opening_is s query weights rows ms run server g k some b =
+base_opening_is s query weights rows ms run server g total k some b =
     let all : s.sizes.widths.columns ≤ s.sizes.widths.columns = omega arith in
-    ap (λ (l : List ℕ). get_or l 0 0) (base_is s query weights rows ms run server g opening k some b)
+    ap (λ (l : List ℕ). get_or l 0 0)
+    (base_is s query weights rows ms run server g opening k some b ∙ ap (λ (d : Ending). words_of s.sizes d run (share_seat s ms server run k) opening) total)
     ∙ rw ((g.asks.hold.shared s.sizes.widths.columns all).next k b, g.asks.keys.seeds k b)
 
 opened_base : (s : Setup) (query : Query) (weights : ℕ → ℕ → ℕ) (rows : List Row) (ms : List Message) (run server : ℕ)
@@ -265,13 +266,13 @@ opened_base s query weights rows ms run server g some =
     ∙ ap (λ (d : ℕ). plus (plus (plus (y 0) (y 1)) (y 2)) d) own
 
 bases_open : (s : Setup) (query : Query) (weights : ℕ → ℕ → ℕ) (rows : List Row) (ms : List Message) (run server : ℕ)
-    → IsCase s query weights rows ms run server → 0 < count_of s.sizes
+    → IsCase s query weights rows ms run server → s.ending ≡ total_ending s.sizes → 0 < count_of s.sizes
     → let y = λ (k : ℕ). get_or (base s ms server run opening k) 0 0 in
     plus (plus (y 0) (y 1)) (y 2)
     ≡ chain_sum s.sizes.shape.aggregate
     (listed s.sizes.rows (shifted_chain (row_bit query (weights run) rows) (shift_of s ms server run) (count_of s.sizes - 1)))
     (map (λ (row : Row). word_of row.value) rows)
-bases_open s query weights rows ms run server g h =
+bases_open s query weights rows ms run server g total h =
     let a = g.asks in
     let last = count_of s.sizes - 1 in
     let value = s.sizes.widths.columns in
@@ -285,14 +286,14 @@ bases_open s query weights rows ms run server g h =
     let long : length (flat_map (code_at s.sizes.widths value) rows) ≡ s.sizes.rows = ap length values ∙ length-map rows (λ (row : Row). word_of row.value) ∙ sym a.long in
     let three_values : IsThree s.sizes.rows (v 0) (v 1) (v 2) = record { first = shared.long.first ∙ long; second = shared.long.second ∙ long; third = shared.long.third ∙ long } in
     let whole : sums3 (v 0) (v 1) (v 2) ≡ map (λ (row : Row). word_of row.value) rows = shared.adds_up ∙ values in
-    let at = λ (k : ℕ) (b : k < 3). base_opening_is s query weights rows ms run server g k h b in
+    let at = λ (k : ℕ) (b : k < 3). base_opening_is s query weights rows ms run server g total k h b in
     rw (at 0 (omega arith), at 1 (omega arith), at 2 (omega arith))
     (shares_open s.sizes.shape.aggregate s.sizes.rows (c 0) (c 1) (c 2) (v 0) (v 1) (v 2) (pad 0) (pad 1) (pad 2)
     (three_chain s ms run server last g.two g.transcript within) three_values
     ∙ rw (chain_total s query weights rows ms run server g last within, whole))
 
 pub shifted_open : ShiftedOpen
-shifted_open s query weights rows ms run server two three asks transcript one =
+shifted_open s query weights rows ms run server two three asks total transcript one =
     let g : IsCase s query weights rows ms run server = record {
       two = two;
       three = three;
@@ -302,4 +303,4 @@ shifted_open s query weights rows ms run server two three asks transcript one =
     } in
     let some : 0 < count_of s.sizes = omega (arith, asks.suits.some, count_is s query asks.shape) in
     opened_base s query weights rows ms run server g some
-    ∙ rw (bases_open s query weights rows ms run server g some, count_is s query asks.shape, asks.long, aggregate_is s query asks.shape)
+    ∙ rw (bases_open s query weights rows ms run server g total some, count_is s query asks.shape, asks.long, aggregate_is s query asks.shape)

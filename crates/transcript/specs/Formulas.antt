@@ -8,9 +8,14 @@ use Rattle.scan_chunks.specs.Pieces.{Pieces, row_of}
 use Rattle.table_schema.specs.declared.shapes.Aggregate.{Aggregate}
 use Rattle.table_schema.specs.declared.shapes.Aggregate.TheVariants.{Count, Sum}
 use Rattle.onehot_column.specs.Code.{width_of}
-use Rattle.transcript.specs.Setup.{Sizes, count_of, column_of}
+use Rattle.prg_chacha.specs.declared.seed.Seed.{Seed}
+use Rattle.table_schema.specs.declared.widths.Widths.{Widths}
+use Rattle.query_plan.specs.KeyMessages.{message_words, view_of}
+use Rattle.query_plan.specs.Query.{shaped}
+use Rattle.query_plan.specs.declared.query.Query.{Query}
+use Rattle.transcript.specs.Setup.{Sizes, Ending, Setup, count_of, column_of}
 use Rattle.query_plan.specs.Views.{View}
-use Rattle.transcript.specs.Steps.{Step, bits, product, opening, counter_of, chain_step}
+use Rattle.transcript.specs.Steps.{Step, bits, product, further, opening, counter_of, chain_step, step_before}
 
 -- bits of predicate j, a number a row: the server's two tables at the row's two pieces, and a zero part
 abbrev pub bits_words : Sizes → ℕ → View → Pieces → ℕ → List ℕ
@@ -40,6 +45,10 @@ opening_words z run view pieces first second =
     (opening_share z.shape.aggregate first second (pieces.first value) (pieces.second value))
     (part_of view.own view.next (counter_of (count_of z) run opening)) ∷ []
 
+-- a run that ends with one number: nothing further, and the opening
+abbrev pub total_ending : Sizes → Ending
+total_ending z = record { further = 0; words = λ run e view pieces first second. []; last = opening_words z }
+
 -- what a server goes by in a run: what it read, its pieces, and the pair of lists that it holds after each step
 pub record Seat : Type 0 where
   pub view : View
@@ -48,11 +57,23 @@ pub record Seat : Type 0 where
   pub second : Step → List ℕ
 
 -- the words that a server sends in a step
-abbrev pub words_of : Sizes → ℕ → Seat → Step → List ℕ
-words_of z run seat (bits j) = bits_words z run seat.view seat.pieces j
-words_of z run seat (product j) =
+abbrev pub words_of : Sizes → Ending → ℕ → Seat → Step → List ℕ
+words_of z ending run seat (bits j) = bits_words z run seat.view seat.pieces j
+words_of z ending run seat (product j) =
     let chain = chain_step (j - 1) in
     product_words z run seat.view j (seat.first chain) (seat.second chain) (seat.first (bits j)) (seat.second (bits j))
-words_of z run seat opening =
-    let chain = chain_step (count_of z - 1) in
-    opening_words z run seat.view seat.pieces (seat.first chain) (seat.second chain)
+words_of z ending run seat (further e) =
+    let held = step_before (count_of z) e in ending.words run e seat.view seat.pieces (seat.first held) (seat.second held)
+words_of z ending run seat opening =
+    let held = step_before (count_of z) ending.further in ending.last run seat.view seat.pieces (seat.first held) (seat.second held)
+
+-- a query with its seed over so many rows, of which the servers hold these pieces
+abbrev pub setup_for : Query → Widths → Seed → ℕ → (ℕ → Pieces) → Setup
+setup_for query w seed rows pieces =
+    let sizes : Sizes = record { rows = rows; widths = w; shape = shaped query } in record {
+      sizes = sizes;
+      ending = total_ending sizes;
+      keys = message_words query w.bits seed;
+      read = view_of (shaped query) w.bits;
+      pieces = pieces;
+    }

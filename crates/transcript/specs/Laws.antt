@@ -1,5 +1,5 @@
 -- What a query opens where nothing was altered.
-use Rattle.std.specs.Prelude.{ℕ, pos, ◌≡◌, ◌<◌, ◌≤◌, ◌^◌, List, length, map, All}
+use Rattle.std.specs.Prelude.{ℕ, pos, ◌≡◌, ◌<◌, ◌≤◌, ◌^◌, ◌-◌, cond, List, length, map, All}
 use Rattle.scan_chunks.specs.Pieces.{Pieces}
 use Rattle.ring128.specs.Ring.{times}
 use Rattle.wire_line.specs.declared.message.Message.{Message}
@@ -9,12 +9,14 @@ use Rattle.table_schema.specs.Widths.{Holds}
 use Rattle.onehot_column.specs.Code.{word_of}
 use Rattle.query_plan.specs.declared.query.Query.{Query}
 use Rattle.query_plan.specs.Query.{shaped, Suits}
-use Rattle.query_plan.specs.Views.{AreKeys, key_from}
-use Rattle.transcript.specs.Plain.{plain}
-use Rattle.transcript.specs.Setup.{Setup, Sizes, column_of, count_of, with_pieces}
-use Rattle.transcript.specs.Steps.{Step, bits, product, opening, IsStep, place_of}
+use Rattle.query_plan.specs.Views.{AreKeys, View, key_from}
+use Rattle.replicated_share.specs.Share.{AreShares}
+use Rattle.transcript.specs.Plain.{plain, passes}
+use Rattle.transcript.specs.Formulas.{total_ending}
+use Rattle.transcript.specs.Setup.{Setup, Sizes, Ending, column_of, count_of, with_pieces}
+use Rattle.transcript.specs.Steps.{Step, bits, product, further, opening, IsStep, chain_step, place_of}
 use Rattle.wire_line.specs.Messages.{IsHonest, message_at}
-use Rattle.transcript.specs.Transcript.{IsPart, IsTranscript, opened_of}
+use Rattle.transcript.specs.Transcript.{IsPart, IsTranscript, opened_of, seat_of}
 use Rattle.prg_chacha.specs.declared.seed.Seed.{Seed}
 use Rattle.transcript.specs.Rows.{HoldRows, pieces_over}
 
@@ -26,18 +28,30 @@ pub record Asks (s : Setup) (query : Query) (weights : ℕ → ℕ → ℕ) (row
   pub hold : HoldRows s.sizes.widths rows s.pieces
   pub long : s.sizes.rows ≡ length rows
 
+-- the products of a run through predicate j, for each row: the key so far where the row passes, else 0
+abbrev pub passing : Query → (ℕ → ℕ) → List Row → List ℕ
+passing query weights rows = map (λ (row : Row). cond (passes query row) (key_from weights query.count) 0) rows
+
+-- where nothing was altered, the servers share the products of the bits, however the run ends
+abbrev pub ProductsShared : Type 0
+ProductsShared =
+    (s : Setup) (query : Query) (weights : ℕ → ℕ → ℕ) (rows : List Row) (ms : List Message) (run : ℕ) → run < 2
+    → Asks s query weights rows → IsTranscript s ms → IsHonest ms
+    → let step = chain_step (count_of s.sizes - 1) in
+    AreShares (λ k. (seat_of s ms run k).first step) (λ k. (seat_of s ms run k).second step) (passing query (weights run) rows)
+
 -- where nothing was altered, a run opens its key times the plain answer
 abbrev pub RunsOpen : Type 0
 RunsOpen =
     (s : Setup) (query : Query) (weights : ℕ → ℕ → ℕ) (rows : List Row) (ms : List Message) (run : ℕ) → run < 2
-    → Asks s query weights rows → IsTranscript s ms → IsHonest ms
+    → Asks s query weights rows → s.ending ≡ total_ending s.sizes → IsTranscript s ms → IsHonest ms
     → opened_of s ms run ≡ times (key_from (weights run) (query.count)) (word_of (plain query rows))
 
 -- where the weights of run 0 are 1 and nothing was altered, the total is the plain answer, and the weighted total is the key times it
 abbrev pub PairOpens : Type 0
 PairOpens =
     (s : Setup) (query : Query) (weights : ℕ → ℕ → ℕ) (rows : List Row) (ms : List Message) → ((j : ℕ) → weights 0 j ≡ 1)
-    → Asks s query weights rows → IsTranscript s ms → IsHonest ms
+    → Asks s query weights rows → s.ending ≡ total_ending s.sizes → IsTranscript s ms → IsHonest ms
     → let answer = word_of (plain query rows) in
     (opened_of s ms 0 ≡ answer) × (opened_of s ms 1 ≡ times (key_from (weights 1) (query.count)) answer)
 
@@ -51,13 +65,15 @@ PlainIsSmall =
 abbrev pub step_length : Sizes → Step → ℕ
 step_length z (bits j) = z.rows
 step_length z (product j) = z.rows
+step_length z (further e) = z.rows
 step_length z opening = 1
 
 -- the lengths of a transcript's messages rest on the sizes alone, whatever was altered
 abbrev pub LengthsAreSizes : Type 0
 LengthsAreSizes =
-    (s : Setup) (ms : List Message) (run : ℕ) (step : Step) (k : ℕ) → run < 2 → IsStep (count_of s.sizes) step → k < 3 → IsTranscript s ms
-    → let m = message_at ms (place_of (count_of s.sizes) run step k) in
+    (s : Setup) (ms : List Message) (run : ℕ) (step : Step) (k : ℕ) → run < 2 → IsStep (count_of s.sizes) s.ending.further step → k < 3
+    → s.ending ≡ total_ending s.sizes → IsTranscript s ms
+    → let m = message_at ms (place_of (count_of s.sizes) s.ending.further run step k) in
     (length m.sent ≡ step_length s.sizes step) × (length m.received ≡ step_length s.sizes step)
 
 -- what the servers hold of rows that were split by seeds holds these rows, whatever the seeds
@@ -69,13 +85,29 @@ PiecesHold = (w : Widths) (entries : List (Row × Seed)) → All (λ (entry : Ro
 abbrev pub HasColumns : Sizes → Type 0
 HasColumns z = (j : ℕ) → j < count_of z → column_of z j < z.widths.columns
 
+-- a server's pieces that are the same at each column, the value's among them
+pub record SamePiece (columns : ℕ) (p q : Pieces) : Type 0 where
+  pub first : (column : ℕ) → column ≤ columns → p.first column ≡ q.first column
+  pub second : (column : ℕ) → column ≤ columns → p.second column ≡ q.second column
+
 -- pieces that are the same at each column, the value's among them
 pub record SamePieces (columns : ℕ) (p q : ℕ → Pieces) : Type 0 where
   pub first : (k column : ℕ) → k < 3 → column ≤ columns → (p k).first column ≡ (q k).first column
   pub second : (k column : ℕ) → k < 3 → column ≤ columns → (p k).second column ≡ (q k).second column
 
+-- the end of a run rests on the pieces at these columns alone
+pub record SeesColumns (columns : ℕ) (ending : Ending) : Type 0 where
+  pub words : (run e : ℕ) (view : View) (p q : Pieces) (first second : List ℕ) → SamePiece columns p q
+      → ending.words run e view p first second ≡ ending.words run e view q first second
+  pub last : (run : ℕ) (view : View) (p q : Pieces) (first second : List ℕ) → SamePiece columns p q
+      → ending.last run view p first second ≡ ending.last run view q first second
+
+-- that of a total does
+abbrev pub TotalSeesColumns : Type 0
+TotalSeesColumns = (z : Sizes) → SeesColumns z.widths.columns (total_ending z)
+
 -- of the pieces just the columns that there are count for the messages
 abbrev pub ColumnsSuffice : Type 0
 ColumnsSuffice =
-    (s : Setup) (pieces : ℕ → Pieces) (ms : List Message) → HasColumns s.sizes → SamePieces s.sizes.widths.columns s.pieces pieces
+    (s : Setup) (pieces : ℕ → Pieces) (ms : List Message) → HasColumns s.sizes → SeesColumns s.sizes.widths.columns s.ending → SamePieces s.sizes.widths.columns s.pieces pieces
     → IsPart s ms → IsPart (with_pieces s pieces) ms

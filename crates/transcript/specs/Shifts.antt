@@ -11,7 +11,7 @@ use Rattle.query_plan.specs.declared.query.Query.{Query}
 use Rattle.query_plan.specs.Query.{predicate_at}
 use Rattle.transcript.specs.Setup.{Setup, count_of}
 use Rattle.transcript.specs.Steps.{Step, bits, product, opening, place_of, peer_of, after}
-use Rattle.transcript.specs.Formulas.{Seat, words_of}
+use Rattle.transcript.specs.Formulas.{Seat, words_of, total_ending}
 use Rattle.wire_line.specs.Messages.{message_at}
 use Rattle.transcript.specs.Transcript.{IsTranscript, opened_of}
 use Rattle.transcript.specs.Laws.{Asks}
@@ -28,18 +28,18 @@ abbrev pub realigned_seat : Setup → List Message → ℕ → ℕ → Seat
 realigned_seat s ms run k = record {
   view = s.read (message_at ms k).sent;
   pieces = s.pieces k;
-  first = λ step. (message_at ms (place_of (count_of s.sizes) run step k)).received;
-  second = λ step. (message_at ms (place_of (count_of s.sizes) run step (after k))).sent;
+  first = λ step. (message_at ms (place_of (count_of s.sizes) s.ending.further run step k)).received;
+  second = λ step. (message_at ms (place_of (count_of s.sizes) s.ending.further run step (after k))).sent;
 }
 
 -- the words that it would then send
 abbrev pub realigned_words : Setup → List Message → ℕ → ℕ → Step → List ℕ
-realigned_words s ms server run step = words_of s.sizes run (realigned_seat s ms run server) step
+realigned_words s ms server run step = words_of s.sizes s.ending run (realigned_seat s ms run server) step
 
 -- by how much a word that was received from it is off
 abbrev pub shift_of : Setup → List Message → ℕ → ℕ → Step → ℕ → ℕ
 shift_of s ms server run step i =
-    minus (slice_index (message_at ms (place_of (count_of s.sizes) run step server)).received i) (slice_index (realigned_words s ms server run step) i)
+    minus (slice_index (message_at ms (place_of (count_of s.sizes) s.ending.further run step server)).received i) (slice_index (realigned_words s ms server run step) i)
 
 -- the product of a row's bits through predicate j, with the shifts of each step
 abbrev pub shifted_chain : (ℕ → ℕ → ℕ) → (Step → ℕ → ℕ) → ℕ → ℕ → ℕ
@@ -65,7 +65,7 @@ chain_sum Sum chain values = dot_of chain values
 abbrev pub ShiftedOpen : Type 0
 ShiftedOpen =
     (s : Setup) (query : Query) (weights : ℕ → ℕ → ℕ) (rows : List Row) (ms : List Message) (run server : ℕ) → run < 2 → server < 3
-    → Asks s query weights rows → IsTranscript s ms → OneAltered server ms
+    → Asks s query weights rows → s.ending ≡ total_ending s.sizes → IsTranscript s ms → OneAltered server ms
     → let shift = shift_of s ms server run in
     let chain = listed (length rows) (shifted_chain (row_bit query (weights run) rows) shift (query.count - 1)) in
     opened_of s ms run ≡ plus (chain_sum query.aggregate chain (map (λ (row : Row). word_of row.value) rows)) (shift opening 0)

@@ -1,7 +1,17 @@
 //! Laws of the definitions, as functions without effect: the clause of each is the law.
 
-ghost use Rattle.transcript.specs.Laws.{ColumnsSuffice, RunsOpen, PairOpens, PiecesHold, PlainIsSmall, LengthsAreSizes};
+ghost use Rattle.transcript.specs.Laws.{ColumnsSuffice, ProductsShared, TotalSeesColumns, RunsOpen, PairOpens, PiecesHold, PlainIsSmall, LengthsAreSizes};
 ghost use Rattle.transcript.specs.Shifts.{ShiftedOpen};
+
+/// Where nothing was altered and the servers hold rows, they share the products of the bits, however the run ends.
+pub fn products_shared()
+    ensures { ProductsShared }
+{}
+
+/// The openings of a total rest on the pieces at the table's columns alone.
+pub fn total_sees_columns()
+    ensures { TotalSeesColumns }
+{}
 
 /// Where nothing was altered and the servers hold rows, a run opens its key times the plain answer.
 pub fn runs_open()

@@ -15,7 +15,7 @@ use Rattle.table_schema.specs.declared.rows.Row.{Row}
 use Rattle.table_schema.specs.declared.widths.Widths.{Widths}
 use Rattle.transcript.specs.Laws.{HasColumns}
 use Rattle.transcript.specs.Rows.{pieces_over}
-use Rattle.transcript.specs.Setup.{setup_for}
+use Rattle.transcript.specs.Formulas.{setup_for}
 use Rattle.transcript.specs.Transcript.{IsPart, IsTranscript, opened_of}
 use Rattle.wire_line.specs.Messages.{IsHonest}
 use Rattle.wire_line.specs.declared.message.Message.{Message}
@@ -136,7 +136,7 @@ module _ (held : Snapshot → Held) (m : Seen) (number : ℕ) (g : Agreement) (q
       → Opens m.widths m.core.order (held g.zero).rows query seed ms pair
   asked_opens ms pair all total weighted =
       let pieces = by_server (held g.zero).pieces (held g.one).pieces (held g.two).pieces in
-      let full : length ms ≡ 3 + 12 * query.count = all.full ∙ ap (λ (k : Asked). 3 + 12 * k.query.count) asks.made in
+      let full : length ms ≡ 3 + 12 * query.count + 6 * 0 = all.full ∙ ap (λ (k : Asked). 3 + 12 * k.query.count + 6 * 0) asks.made in
       record {
         transcript = record { part = asked_part ms all.part; full = full };
         total = total ∙ ap (λ (k : Asked). opened_of (setup_for k.query k.widths k.seed (held g.zero).rows (by_server (held g.zero).pieces (held g.one).pieces (held g.two).pieces)) ms 0) asks.made;

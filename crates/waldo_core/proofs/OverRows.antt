@@ -15,9 +15,10 @@ use Rattle.table_schema.specs.declared.rows.Row.{Row}
 use Rattle.table_schema.specs.declared.widths.Widths.{Widths}
 use Rattle.transcript.specs.Laws.{HasColumns, SamePieces}
 use Rattle.transcript.specs.Rows.{cells_over, pieces_over}
-use Rattle.transcript.specs.Setup.{Setup, setup_for}
+use Rattle.transcript.specs.Setup.{Setup}
+use Rattle.transcript.specs.Formulas.{setup_for}
 use Rattle.transcript.specs.Transcript.{IsPart, IsTranscript}
-use Rattle.transcript.proofs.Agree.{columns_suffice}
+use Rattle.transcript.proofs.Agree.{columns_suffice, total_sees_columns}
 use Rattle.wire_line.specs.declared.message.Message.{Message}
 use Rattle.waldo_core.specs.Held.{AgreeOn, ArePartsOf, AreRowsOf, KeepsFirst}
 
@@ -62,7 +63,7 @@ pub over_same : (query : Query) (w : Widths) (seed : Seed) (m n : ℕ) (pieces o
     → IsPart (setup_for query w seed m pieces) ms → IsPart (setup_for query w seed n other) ms
 over_same query w seed m n pieces other ms many columns same part =
     let here : IsPart (setup_for query w seed n pieces) ms = subst (λ (k : ℕ). IsPart (setup_for query w seed k pieces) ms) many part in
-    columns_suffice (setup_for query w seed n pieces) other ms columns same here
+    columns_suffice (setup_for query w seed n pieces) other ms columns (total_sees_columns (record { rows = n; widths = w; shape = shaped query })) same here
 
 pub all_over_same : (query : Query) (w : Widths) (seed : Seed) (m n : ℕ) (pieces other : ℕ → Pieces) (ms : List Message) → m ≡ n
     → HasColumns (record { rows = n; widths = w; shape = shaped query }) → SamePieces w.columns pieces other

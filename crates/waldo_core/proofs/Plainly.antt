@@ -39,6 +39,6 @@ pub opens_plainly : (w : Widths) (order : List (Row × Seed)) (n : ℕ) (query :
     → Opens w order n query seed ms pair → IsHonest ms → pair ≡ plain_pair order n query seed
 opens_plainly w order n query seed ms pair keys suits few held o honest =
     let opened = pair_opens (setup_over w order n query seed) query (weights_of seed) (rows_in (take n order)) ms (λ j. refl)
-    (asks w order n query seed keys suits few held) o.transcript honest in
+    (asks w order n query seed keys suits few held) refl o.transcript honest in
     ap (λ (total : ℕ). record { total = total; weighted = pair.weighted }) (o.total ∙ opened.0)
     ∙ ap (λ (weighted : ℕ). record { total = word_of (plain query (rows_in (take n order))); weighted = weighted }) (o.weighted ∙ opened.1)

@@ -11,7 +11,8 @@ use Rattle.table_schema.specs.declared.rows.Row.{Row}
 use Rattle.table_schema.specs.declared.widths.Widths.{Widths}
 use Rattle.transcript.specs.Plain.{plain}
 use Rattle.transcript.specs.Rows.{pieces_over}
-use Rattle.transcript.specs.Setup.{Setup, setup_for}
+use Rattle.transcript.specs.Setup.{Setup}
+use Rattle.transcript.specs.Formulas.{setup_for}
 use Rattle.transcript.specs.Transcript.{IsPart, IsTranscript, opened_of}
 use Rattle.wire_line.specs.declared.message.Message.{Message}
 use Rattle.waldo_core.specs.Core.{Actor, Core, Fixes}

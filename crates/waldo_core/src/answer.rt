@@ -3,7 +3,7 @@ ghost use Rattle.std.specs.Prelude.{◌≡◌, ◌<◌, ◌≤◌, List, IfOk};
 ghost use Rattle.server_rounds.specs.Groups.{by_server};
 ghost use Rattle.query_plan.specs.Query.{shaped};
 ghost use Rattle.transcript.specs.Laws.{HasColumns};
-ghost use Rattle.transcript.specs.Setup.{setup_for};
+ghost use Rattle.transcript.specs.Formulas.{setup_for};
 ghost use Rattle.transcript.specs.Transcript.{IsPart, IsTranscript, opened_of};
 ghost use Rattle.wire_line.specs.Messages.{Went};
 ghost use Rattle.wire_line.specs.declared.message.Message.{Message};

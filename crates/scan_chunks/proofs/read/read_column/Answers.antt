@@ -1,6 +1,6 @@
-use Rattle.std.proofs.Common.{arith, ◌≡◌, ◌∙◌, sym, ◌+◌, ◌-◌, ◌≤◌}
+use Rattle.std.proofs.Common.{arith, ◌≡◌, ◌∙◌, sym, ap, ℕ, List, ◌*◌, take, ◌+◌, ◌-◌, ◌≤◌}
 use Rattle.scan_chunks.specs.Pieces.{chunks_of}
-use Rattle.scan_chunks.proofs.Chunks.{chunk_more}
+use Rattle.scan_chunks.proofs.Chunks.{chunk_more, all_chunks}
 use Rattle.scan_chunks.proofs.Visits.{stopped, visited_more}
 use Rattle.scan_chunks.proofs.read.read_column.Goals as goal
 
@@ -43,3 +43,19 @@ loop-c-preserved g c =
       second = rw (c.in_ok-extend_from_slice-2.ensures.items, c.in_ok-lent.ensures.second, i.second, i.held, i.start, at) (sym (chunk_more (h.width c.args.column) c.loop-c.c (h.pieces.second c.args.column)));
       visits = visited_more h c.args.column c.loop-c.c _ _ _ i.visits (rw (i.start) at went);
     }
+
+pub returns-clause-first : goal.returns-clause-first
+returns-clause-first g c =
+    let i = c.loop-c.invariant in
+    let h = g.S.Shelf.held c.args.shelf.now in
+    let end : c.loop-c.c ≡ chunks_of h.rows = omega (arith, c.loop-c-test.false, c.div_ceil-c-end.ensures, i.rows, c.loop-c.auto.c-end) in
+    c.from_vec.ensures ∙ i.first ∙ ap (λ (n : ℕ). take (64 * h.width c.args.column * n) (h.pieces.first c.args.column)) end
+    ∙ all_chunks (h.width c.args.column) h.rows (h.pieces.first c.args.column) (i.shelf.first c.args.column c.requires.column)
+
+pub returns-clause-second : goal.returns-clause-second
+returns-clause-second g c =
+    let i = c.loop-c.invariant in
+    let h = g.S.Shelf.held c.args.shelf.now in
+    let end : c.loop-c.c ≡ chunks_of h.rows = omega (arith, c.loop-c-test.false, c.div_ceil-c-end.ensures, i.rows, c.loop-c.auto.c-end) in
+    c.from_vec-2.ensures ∙ i.second ∙ ap (λ (n : ℕ). take (64 * h.width c.args.column * n) (h.pieces.second c.args.column)) end
+    ∙ all_chunks (h.width c.args.column) h.rows (h.pieces.second c.args.column) (i.shelf.second c.args.column c.requires.column)

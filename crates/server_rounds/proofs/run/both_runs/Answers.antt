@@ -3,6 +3,7 @@ use Rattle.list_facts.specs.Count.{total}
 use Rattle.scan_chunks.specs.Shelf.{Held}
 use Rattle.wire_line.specs.Carried.{went_both}
 use Rattle.transcript.specs.Setup.{Sizes, count_of}
+use Rattle.transcript.specs.Formulas.{total_ending}
 use Rattle.server_rounds.specs.Groups.{by_server}
 use Rattle.server_rounds.specs.Plans.{read_for, sizes_for, views_of, words_for}
 use Rattle.server_rounds.specs.Shelves.{AreShelves, pieces_of, rows_of}
@@ -80,7 +81,8 @@ returns-in_err-total-clause-messages g c =
     let read = read_for c.args.keys.now in
     let views = views_of c.in_ok-ready.ready.keys in
     let k = c.in_ok-ready.ensures.messages in
-    let b0 = after_keys z words read pieces views k.0 k.2 k.3 in
+    let ending = total_ending z in
+    let b0 = after_keys z ending words read pieces views k.0 k.2 k.3 in
     let r = rw plan at c.in_err-total.ensures.messages in
     let went = went_both g.W.Wire.told g.W.Wire.alterations g.W.Wire.passes g.met.W.Wire.both_pass _ _ _ k.0 r.0 k.1 r.1 in
     (k.0 ++ r.0, went, r.2 words read k.0 b0, search rules)
@@ -96,10 +98,11 @@ returns-in_err-weighted-clause-messages g c =
     let read = read_for c.args.keys.now in
     let views = views_of c.in_ok-ready.ready.keys in
     let k = c.in_ok-ready.ensures.messages in
-    let b0 = after_keys z words read pieces views k.0 k.2 k.3 in
+    let ending = total_ending z in
+    let b0 = after_keys z ending words read pieces views k.0 k.2 k.3 in
     let r = rw plan at c.in_ok-total.ensures.messages in
     let w = rw (plan, c.in_ok-total.ensures.zero, c.in_ok-total.ensures.one, c.in_ok-total.ensures.two) at c.in_err-weighted.ensures.messages in
-    let b1 = after_run z words read pieces views k.0 r.0 _ b0 r.2 r.3 in
+    let b1 = after_run z ending words read pieces views k.0 r.0 0 _ b0 r.2 r.3 in
     let first = went_both g.W.Wire.told g.W.Wire.alterations g.W.Wire.passes g.met.W.Wire.both_pass _ _ _ k.0 r.0 k.1 r.1 in
     let went = went_both g.W.Wire.told g.W.Wire.alterations g.W.Wire.passes g.met.W.Wire.both_pass _ _ _ (k.0 ++ r.0) w.0 first w.1 in
     ((k.0 ++ r.0) ++ w.0, went, w.2 words read (k.0 ++ r.0) b1, search rules)
@@ -115,12 +118,13 @@ returns-clause-messages g c =
     let read = read_for c.args.keys.now in
     let views = views_of c.in_ok-ready.ready.keys in
     let k = c.in_ok-ready.ensures.messages in
-    let b0 = after_keys z words read pieces views k.0 k.2 k.3 in
+    let ending = total_ending z in
+    let b0 = after_keys z ending words read pieces views k.0 k.2 k.3 in
     let r = rw plan at c.in_ok-total.ensures.messages in
     let w = rw (plan, c.in_ok-total.ensures.zero, c.in_ok-total.ensures.one, c.in_ok-total.ensures.two) at c.in_ok-weighted.ensures.messages in
-    let b1 = after_run z words read pieces views k.0 r.0 _ b0 r.2 r.3 in
+    let b1 = after_run z ending words read pieces views k.0 r.0 0 _ b0 r.2 r.3 in
     let first = went_both g.W.Wire.told g.W.Wire.alterations g.W.Wire.passes g.met.W.Wire.both_pass _ _ _ k.0 r.0 k.1 r.1 in
     let went = went_both g.W.Wire.told g.W.Wire.alterations g.W.Wire.passes g.met.W.Wire.both_pass _ _ _ (k.0 ++ r.0) w.0 first w.1 in
     let some : 0 < count_of z = rw plan at c.in_ok-total.ensures.some in
     let part = w.2 words read (k.0 ++ r.0) b1 in
-    ((k.0 ++ r.0) ++ w.0, went, part, whole_pair z words read pieces views k.0 r.0 w.0 _ _ some b0 b1 r.3 part w.3)
+    ((k.0 ++ r.0) ++ w.0, went, part, whole_pair z ending words read pieces views k.0 r.0 w.0 0 _ _ some b0 b1 r.3 part w.3)

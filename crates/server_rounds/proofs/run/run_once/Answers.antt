@@ -1,127 +1,61 @@
-use Rattle.std.proofs.Common.{◌≡◌, ◌∙◌, ◌<◌, ◌++◌, ap, rules, arith}
+use Rattle.std.proofs.Common.{◌≡◌, ◌∙◌, ◌<◌, ◌++◌, ap, sym, subst, rules, arith, map}
 use Rattle.wire_line.specs.Carried.{went_both}
 use Rattle.transcript.specs.Setup.{Sizes, count_of}
-use Rattle.server_rounds.proofs.Runs.{first_part, so_far_first, predicate_part, so_far_more, opening_part, run_ends}
+use Rattle.transcript.specs.Formulas.{total_ending}
+use Rattle.server_rounds.proofs.Runs.{opening_part, run_ends}
 use Rattle.server_rounds.proofs.run.run_once.Goals as goal
 
 pub returns-in_err-product-clause-messages : goal.returns-in_err-product-clause-messages
 returns-in_err-product-clause-messages g c =
-    let b = c.in_err-product.ensures.messages in
-    let some : 0 < count_of c.args.ready.now.plan = omega (arith, c.count-count.ensures.some, c.count-count.ensures.value) in
-    (b.0, b.1, first_part _ _ _ _ b.0 c.requires.run some b.2, search rules)
-
-pub loop-j-init : goal.loop-j-init
-loop-j-init g c =
-    let b = c.in_ok-product.ensures.messages in
-    let some : 0 < count_of c.args.ready.now.plan = omega (arith, c.count-count.ensures.some, c.count-count.ensures.value) in
-    record {
-      zero = c.in_ok-product.ensures.zero;
-      one = c.in_ok-product.ensures.one;
-      two = c.in_ok-product.ensures.two;
-      plan = c.in_ok-product.ensures.plan;
-      run = c.in_ok-product.ensures.run;
-      j = omega (arith, c.in_ok-product.ensures.j);
-      messages = (b.0, b.1, so_far_first _ _ _ _ _ b.0 c.requires.run some b.2 b.3);
-    }
-
-pub next_predicate-requires-clause-began : goal.next_predicate-requires-clause-began
-next_predicate-requires-clause-began g c κs within = c.loop-j.invariant.plan
-
-pub next_predicate-requires-clause-left : goal.next_predicate-requires-clause-left
-next_predicate-requires-clause-left g c κs within =
-    omega (arith, c.loop-j.invariant.j, ap (λ (z : Sizes). count_of z) c.loop-j.invariant.plan, c.loop-j-test.true, c.count-count.ensures.value)
-
-pub next_predicate-requires-clause-zero : goal.next_predicate-requires-clause-zero
-next_predicate-requires-clause-zero g c κs within = rw (c.loop-j.invariant.plan, c.loop-j.invariant.zero) c.requires.zero
-
-pub next_predicate-requires-clause-one : goal.next_predicate-requires-clause-one
-next_predicate-requires-clause-one g c κs within = rw (c.loop-j.invariant.plan, c.loop-j.invariant.one) c.requires.one
-
-pub next_predicate-requires-clause-two : goal.next_predicate-requires-clause-two
-next_predicate-requires-clause-two g c κs within = rw (c.loop-j.invariant.plan, c.loop-j.invariant.two) c.requires.two
-
-pub returns-in_err-product-2-clause-zero : goal.returns-in_err-product-2-clause-zero
-returns-in_err-product-2-clause-zero g c = c.in_err-product-2.ensures.zero ∙ c.loop-j.invariant.zero
-
-pub returns-in_err-product-2-clause-one : goal.returns-in_err-product-2-clause-one
-returns-in_err-product-2-clause-one g c = c.in_err-product-2.ensures.one ∙ c.loop-j.invariant.one
-
-pub returns-in_err-product-2-clause-two : goal.returns-in_err-product-2-clause-two
-returns-in_err-product-2-clause-two g c = c.in_err-product-2.ensures.two ∙ c.loop-j.invariant.two
-
-pub returns-in_err-product-2-clause-messages : goal.returns-in_err-product-2-clause-messages
-returns-in_err-product-2-clause-messages g c =
-    let i = c.loop-j.invariant in
-    let m = rw (i.zero, i.one, i.two, i.plan, i.run, i.j) at c.in_err-product-2.ensures.messages in
-    let some : c.loop-j._j < count_of c.args.ready.now.plan = omega (arith, c.loop-j-test.true, c.count-count.ensures.value) in
-    let went = went_both g.W.Wire.told g.W.Wire.alterations g.W.Wire.passes g.met.W.Wire.both_pass _ _ _ i.messages.0 m.0 i.messages.1 m.1 in
-    (i.messages.0 ++ m.0, went, predicate_part _ _ _ _ _ _ i.messages.0 m.0 c.requires.run some i.messages.2 m.2.0, search rules)
-
-pub loop-j-preserved : goal.loop-j-preserved
-loop-j-preserved g c =
-    let i = c.loop-j.invariant in
-    let m = rw (i.zero, i.one, i.two, i.plan, i.run, i.j) at c.in_ok-product-2.ensures.messages in
-    let some : c.loop-j._j < count_of c.args.ready.now.plan = omega (arith, c.loop-j-test.true, c.count-count.ensures.value) in
-    let went = went_both g.W.Wire.told g.W.Wire.alterations g.W.Wire.passes g.met.W.Wire.both_pass _ _ _ i.messages.0 m.0 i.messages.1 m.1 in
-    record {
-      zero = c.in_ok-product-2.ensures.zero ∙ i.zero;
-      one = c.in_ok-product-2.ensures.one ∙ i.one;
-      two = c.in_ok-product-2.ensures.two ∙ i.two;
-      plan = c.in_ok-product-2.ensures.plan ∙ i.plan;
-      run = c.in_ok-product-2.ensures.run ∙ i.run;
-      j = omega (arith, c.in_ok-product-2.ensures.j, i.j);
-      messages = (i.messages.0 ++ m.0, went, so_far_more _ _ _ _ _ _ _ i.messages.0 m.0 c.requires.run some i.messages.2 m.2.0 m.2.1);
-    }
+    let b = c.in_err-product.ensures.messages in (b.0, b.1, b.2 (total_ending c.args.ready.now.plan), search rules)
 
 pub reveal-requires-clause-last : goal.reveal-requires-clause-last
-reveal-requires-clause-last g c =
-    omega (arith, c.loop-j.invariant.j, ap (λ (z : Sizes). count_of z) c.loop-j.invariant.plan, c.loop-j-test.false, c.count-count.ensures.value, c.count-count.ensures.some, c.loop-j.auto._j-end)
+reveal-requires-clause-last g c = c.in_ok-product.ensures.last ∙ ap (λ (z : Sizes). count_of z) (sym c.in_ok-product.ensures.plan)
 
 pub reveal-requires-clause-zero : goal.reveal-requires-clause-zero
-reveal-requires-clause-zero g c = rw (c.loop-j.invariant.plan, c.loop-j.invariant.zero) c.requires.zero
+reveal-requires-clause-zero g c = rw (c.in_ok-product.ensures.plan, c.in_ok-product.ensures.zero) c.requires.zero
 
 pub reveal-requires-clause-one : goal.reveal-requires-clause-one
-reveal-requires-clause-one g c = rw (c.loop-j.invariant.plan, c.loop-j.invariant.one) c.requires.one
+reveal-requires-clause-one g c = rw (c.in_ok-product.ensures.plan, c.in_ok-product.ensures.one) c.requires.one
 
 pub reveal-requires-clause-two : goal.reveal-requires-clause-two
-reveal-requires-clause-two g c = rw (c.loop-j.invariant.plan, c.loop-j.invariant.two) c.requires.two
+reveal-requires-clause-two g c = rw (c.in_ok-product.ensures.plan, c.in_ok-product.ensures.two) c.requires.two
 
 pub returns-in_err-opened-clause-zero : goal.returns-in_err-opened-clause-zero
-returns-in_err-opened-clause-zero g c = c.in_err-opened.ensures.zero ∙ c.loop-j.invariant.zero
+returns-in_err-opened-clause-zero g c = c.in_err-opened.ensures.zero ∙ c.in_ok-product.ensures.zero
 
 pub returns-in_err-opened-clause-one : goal.returns-in_err-opened-clause-one
-returns-in_err-opened-clause-one g c = c.in_err-opened.ensures.one ∙ c.loop-j.invariant.one
+returns-in_err-opened-clause-one g c = c.in_err-opened.ensures.one ∙ c.in_ok-product.ensures.one
 
 pub returns-in_err-opened-clause-two : goal.returns-in_err-opened-clause-two
-returns-in_err-opened-clause-two g c = c.in_err-opened.ensures.two ∙ c.loop-j.invariant.two
+returns-in_err-opened-clause-two g c = c.in_err-opened.ensures.two ∙ c.in_ok-product.ensures.two
 
 pub returns-clause-zero : goal.returns-clause-zero
-returns-clause-zero g c = c.in_ok-opened.ensures.zero ∙ c.loop-j.invariant.zero
+returns-clause-zero g c = c.in_ok-opened.ensures.zero ∙ c.in_ok-product.ensures.zero
 
 pub returns-clause-one : goal.returns-clause-one
-returns-clause-one g c = c.in_ok-opened.ensures.one ∙ c.loop-j.invariant.one
+returns-clause-one g c = c.in_ok-opened.ensures.one ∙ c.in_ok-product.ensures.one
 
 pub returns-clause-two : goal.returns-clause-two
-returns-clause-two g c = c.in_ok-opened.ensures.two ∙ c.loop-j.invariant.two
+returns-clause-two g c = c.in_ok-opened.ensures.two ∙ c.in_ok-product.ensures.two
 
 pub returns-in_err-opened-clause-messages : goal.returns-in_err-opened-clause-messages
 returns-in_err-opened-clause-messages g c =
-    let i = c.loop-j.invariant in
-    let o = rw (i.zero, i.one, i.two, i.plan, i.run) at c.in_err-opened.ensures.messages in
-    let all : c.loop-j._j ≡ count_of c.args.ready.now.plan = omega (arith, c.loop-j-test.false, c.count-count.ensures.value, c.count-count.ensures.some, c.loop-j.auto._j-end) in
-    let so = rw all at i.messages.2 in
-    let went = went_both g.W.Wire.told g.W.Wire.alterations g.W.Wire.passes g.met.W.Wire.both_pass _ _ _ i.messages.0 o.0 i.messages.1 o.1 in
-    (i.messages.0 ++ o.0, went, opening_part _ _ _ _ _ i.messages.0 o.0 c.requires.run so o.2, search rules)
+    let p = c.in_ok-product.ensures in
+    let o = rw (p.zero, p.one, p.two, p.plan, p.run) at c.in_err-opened.ensures.messages in
+    let went = went_both g.W.Wire.told g.W.Wire.alterations g.W.Wire.passes g.met.W.Wire.both_pass _ _ _ p.messages.0 o.0 p.messages.1 o.1 in
+    (p.messages.0 ++ o.0, went, opening_part _ _ _ _ _ p.messages.0 o.0 c.requires.run p.messages.3 o.2, search rules)
+
+pub returns-clause-some : goal.returns-clause-some
+returns-clause-some g c = c.in_ok-product.ensures.messages.3.some
 
 pub returns-clause-messages : goal.returns-clause-messages
 returns-clause-messages g c =
-    let i = c.loop-j.invariant in
-    let o = rw (i.zero, i.one, i.two, i.plan, i.run) at c.in_ok-opened.ensures.messages in
-    let all : c.loop-j._j ≡ count_of c.args.ready.now.plan = omega (arith, c.loop-j-test.false, c.count-count.ensures.value, c.count-count.ensures.some, c.loop-j.auto._j-end) in
-    let so = rw all at i.messages.2 in
-    let went = went_both g.W.Wire.told g.W.Wire.alterations g.W.Wire.passes g.met.W.Wire.both_pass _ _ _ i.messages.0 o.0 i.messages.1 o.1 in (
-      i.messages.0 ++ o.0,
+    let p = c.in_ok-product.ensures in
+    let o = rw (p.zero, p.one, p.two, p.plan, p.run) at c.in_ok-opened.ensures.messages in
+    let went = went_both g.W.Wire.told g.W.Wire.alterations g.W.Wire.passes g.met.W.Wire.both_pass _ _ _ p.messages.0 o.0 p.messages.1 o.1 in (
+      p.messages.0 ++ o.0,
       went,
-      opening_part _ _ _ _ _ i.messages.0 o.0 c.requires.run so o.2,
-      run_ends _ _ _ _ _ i.messages.0 o.0 _ so o.3,
+      opening_part _ _ _ _ _ p.messages.0 o.0 c.requires.run p.messages.3 o.2,
+      run_ends _ _ _ _ _ p.messages.0 o.0 _ p.messages.3 o.3,
     )

@@ -1,92 +1,16 @@
-use Rattle.std.proofs.Common.{◌≡◌, ◌∙◌, ◌<◌, ◌≤◌, ℕ, sym, ap, length, get_or, arith, length-append}
-use Rattle.std.proofs.lemmas.List.Elements.{All-same}
-use Rattle.scan_chunks.specs.Shelf.{Held, IsShelf}
+use Rattle.std.proofs.Common.{◌≡◌, ◌∙◌, ◌*◌, ◌≤◌, ap, sym, ℕ, map, arith}
 use Rattle.onehot_column.specs.Code.{width_of}
 use Rattle.onehot_column.proofs.CodeLaws.{width_last}
-use Rattle.server_rounds.proofs.Together.{all_items, set_at, shelf_at, lists_more, lists_all, values_together}
+use Rattle.server_rounds.specs.Shelves.{pieces_of}
 use Rattle.server_rounds.proofs.shelves.read_values.Goals as goal
 
-pub read_column-requires-clause-column : goal.read_column-requires-clause-column
-read_column-requires-clause-column g c =
-    let held = g.S.Shelf.held in
-    let columns = c.args.plan.now.widths.columns in
-    let old = c.args.shelves.now.items in
-    let d = c.index_mut.result.now in
-    let k : c.loop-i.i < length old = omega (arith, c.args.shelves.now.ok.0, c.len-i-end.ensures, c.loop-i-test.true) in
-    let is = shelf_at held old c.loop-i.shelves.items c.loop-i.i d c.loop-i.invariant.held k c.index_mut.ensures.value in
-    omega (arith, all_items (λ (x : Held). x.columns ≡ columns) held old c.requires.columns c.loop-i.i d k, ap (λ (x : Held). x.columns) is, c.value-column.ensures)
-
-pub read_column-requires-clause-width : goal.read_column-requires-clause-width
-read_column-requires-clause-width g c =
-    let held = g.S.Shelf.held in
-    let widths = c.args.plan.now.widths in
-    let old = c.args.shelves.now.items in
-    let d = c.index_mut.result.now in
-    let k : c.loop-i.i < length old = omega (arith, c.args.shelves.now.ok.0, c.len-i-end.ensures, c.loop-i-test.true) in
-    let is = shelf_at held old c.loop-i.shelves.items c.loop-i.i d c.loop-i.invariant.held k c.index_mut.ensures.value in
-    ap (λ (x : Held). x.width c.value-column.result) is
-    ∙ ap (λ (n : ℕ). (held (get_or old c.loop-i.i d)).width n) c.value-column.ensures
-    ∙ all_items (λ (x : Held). x.width widths.columns ≡ width_of widths widths.columns) held old (c.requires.wide widths.columns (omega arith)) c.loop-i.i d k ∙ width_last widths
-
-pub returns-in_err-values-clause-held : goal.returns-in_err-values-clause-held
-returns-in_err-values-clause-held g c =
-    let k : c.loop-i.i < length c.args.shelves.now.items = omega (arith, c.args.shelves.now.ok.0, c.len-i-end.ensures, c.loop-i-test.true) in
-    set_at g.S.Shelf.held c.args.shelves.now.items c.loop-i.shelves.items c.loop-i.i c.index_mut.result.now c.read_column.new.shelf c.loop-i.invariant.held k
-    c.in_err-values.ensures.held c.index_mut.ensures.value
-
-pub returns-in_err-extend_from_slice-clause-held : goal.returns-in_err-extend_from_slice-clause-held
-returns-in_err-extend_from_slice-clause-held g c =
-    let k : c.loop-i.i < length c.args.shelves.now.items = omega (arith, c.args.shelves.now.ok.0, c.len-i-end.ensures, c.loop-i-test.true) in
-    set_at g.S.Shelf.held c.args.shelves.now.items c.loop-i.shelves.items c.loop-i.i c.index_mut.result.now c.read_column.new.shelf c.loop-i.invariant.held k
-    c.in_ok-values.ensures.held c.index_mut.ensures.value
-
-pub returns-in_err-extend_from_slice-2-clause-held : goal.returns-in_err-extend_from_slice-2-clause-held
-returns-in_err-extend_from_slice-2-clause-held g c =
-    let k : c.loop-i.i < length c.args.shelves.now.items = omega (arith, c.args.shelves.now.ok.0, c.len-i-end.ensures, c.loop-i-test.true) in
-    set_at g.S.Shelf.held c.args.shelves.now.items c.loop-i.shelves.items c.loop-i.i c.index_mut.result.now c.read_column.new.shelf c.loop-i.invariant.held k
-    c.in_ok-values.ensures.held c.index_mut.ensures.value
-
-pub loop-i-preserved : goal.loop-i-preserved
-loop-i-preserved g c =
-    let held = g.S.Shelf.held in
-    let columns = c.args.plan.now.widths.columns in
-    let old = c.args.shelves.now.items in
-    let i = c.loop-i.i in
-    let d = c.index_mut.result.now in
-    let k : i < length old = omega (arith, c.args.shelves.now.ok.0, c.len-i-end.ensures, c.loop-i-test.true) in
-    let is = shelf_at held old c.loop-i.shelves.items i d c.loop-i.invariant.held k c.index_mut.ensures.value in
-    let first : c.in_ok-values.values.first ≡ (held d).pieces.first columns = c.in_ok-values.ensures.first ∙ ap (λ (n : ℕ). (held d).pieces.first n) c.value-column.ensures in
-    let second : c.in_ok-values.values.second ≡ (held d).pieces.second columns = c.in_ok-values.ensures.second ∙ ap (λ (n : ℕ). (held d).pieces.second n) c.value-column.ensures in
-    record {
-      held = set_at held old c.loop-i.shelves.items i d c.read_column.new.shelf c.loop-i.invariant.held k c.in_ok-values.ensures.held c.index_mut.ensures.value;
-      first = rw (c.in_ok-extend_from_slice.ensures.items, c.as_slice-in-loop-i.ensures, first, c.loop-i.invariant.first)
-          (lists_more held (λ (h : Held). h.pieces.first columns) old i d k is);
-      second = rw (c.in_ok-extend_from_slice-2.ensures.items, c.as_slice-in-loop-i-2.ensures, second, c.loop-i.invariant.second)
-          (lists_more held (λ (h : Held). h.pieces.second columns) old i d k is);
-      lengths = rw (c.in_ok-extend_from_slice.ensures.items, c.in_ok-extend_from_slice-2.ensures.items, c.as_slice-in-loop-i.ensures, c.as_slice-in-loop-i-2.ensures)
-          (omega (arith, length-append c.loop-i.first.items c.in_ok-values.values.first, length-append c.loop-i.second.items c.in_ok-values.values.second, c.in_ok-values.values.lengths, c.loop-i.invariant.lengths));
-    }
-
-pub invariant_of-result : goal.invariant_of-result
-invariant_of-result g c = record { lengths = ap length c.from_vec.ensures ∙ c.loop-i.invariant.lengths ∙ sym (ap length c.from_vec-2.ensures) }
-
 pub returns-clause-first : goal.returns-clause-first
-returns-clause-first g c =
-    let end : length c.args.shelves.now.items ≤ c.loop-i.i = omega (arith, c.args.shelves.now.ok.0, c.len-i-end.ensures, c.loop-i-test.false) in
-    c.from_vec.ensures ∙ c.loop-i.invariant.first ∙ lists_all g.S.Shelf.held (λ (h : Held). h.pieces.first c.args.plan.now.widths.columns) c.args.shelves.now.items c.loop-i.i end
+returns-clause-first g c = c.in_ok-values.ensures.first ∙ ap (λ (n : ℕ). (pieces_of (map g.S.Shelf.held c.args.shelves.now.items)).first n) c.value.ensures
 
 pub returns-clause-second : goal.returns-clause-second
-returns-clause-second g c =
-    let end : length c.args.shelves.now.items ≤ c.loop-i.i = omega (arith, c.args.shelves.now.ok.0, c.len-i-end.ensures, c.loop-i-test.false) in
-    c.from_vec-2.ensures ∙ c.loop-i.invariant.second ∙ lists_all g.S.Shelf.held (λ (h : Held). h.pieces.second c.args.plan.now.widths.columns) c.args.shelves.now.items c.loop-i.i end
+returns-clause-second g c = c.in_ok-values.ensures.second ∙ ap (λ (n : ℕ). (pieces_of (map g.S.Shelf.held c.args.shelves.now.items)).second n) c.value.ensures
 
 pub returns-clause-long : goal.returns-clause-long
 returns-clause-long g c =
-    let held = g.S.Shelf.held in
-    let widths = c.args.plan.now.widths in
-    let old = c.args.shelves.now.items in
-    let P : g.row.S.Denot → Type 0 = λ s. IsShelf (held s) in
-    let end : length old ≤ c.loop-i.i = omega (arith, c.args.shelves.now.ok.0, c.len-i-end.ensures, c.loop-i-test.false) in
-    let all = lists_all held (λ (h : Held). h.pieces.first widths.columns) old c.loop-i.i end in
-    ap length (c.from_vec.ensures ∙ c.loop-i.invariant.first ∙ all)
-    ∙ values_together held widths c.args.plan.now.rows old c.requires (All-same P _ _ (sym c.as_slice.ensures.value) c.rows_together-rows.ensures.shelves)
+    let one : width_of c.args.plan.now.widths c.value.result ≡ 1 = ap (λ (n : ℕ). width_of c.args.plan.now.widths n) c.value.ensures ∙ width_last c.args.plan.now.widths in
+    c.in_ok-values.ensures.long ∙ rw one (omega arith)

@@ -4,7 +4,7 @@ use Rattle.query_plan.proofs.Legal.{ArePlaced}
 use Rattle.std.specs.Option.{option_copied}
 use Rattle.text_reading.specs.Cut.{pieces_left}
 use Rattle.query_plan.specs.Reading.{predicates_from, query_of}
-use Rattle.query_plan.proofs.read.read_query.Given as goal
+use Rattle.query_plan.proofs.read.read_bytes.Given as goal
 
 abbrev pub invariant-loop-rest : goal.invariant-loop-rest
 invariant-loop-rest l = record {

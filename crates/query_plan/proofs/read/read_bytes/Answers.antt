@@ -5,8 +5,8 @@ use Rattle.std.specs.Option.{option_copied}
 use Rattle.text_reading.specs.Cut.{cut_at, pieces, pieces_left}
 use Rattle.query_plan.specs.Reading.{aggregate_of, predicate_of, predicates_from, query_of}
 use Rattle.query_plan.proofs.QueryLaws.{too_few, too_many, good_predicate, fewer_left}
-use Rattle.query_plan.proofs.read.read_query.Goals as goal
-use Rattle.query_plan.proofs.read.read_query.Goals.{then-had-lt1-via-then-had-lt1, then-had-lt1-via-else-had-lt1+then-had-gt-MOST_PREDICATES}
+use Rattle.query_plan.proofs.read.read_bytes.Goals as goal
+use Rattle.query_plan.proofs.read.read_bytes.Goals.{then-had-lt1-via-then-had-lt1, then-had-lt1-via-else-had-lt1+then-had-gt-MOST_PREDICATES}
 
 pub returns-then-had-lt1-clause-exact : goal.returns-then-had-lt1-clause-exact
 returns-then-had-lt1-clause-exact c =

@@ -4,8 +4,8 @@ use Rattle.wire_line.specs.Messages.{Went}
 use Rattle.server_rounds.specs.Groups.{by_server}
 use Rattle.server_rounds.specs.Plans.{views_of}
 use Rattle.server_rounds.specs.Shelves.{pieces_of}
-use Rattle.server_rounds.proofs.Runs.{IsSoFar}
-use Rattle.server_rounds.proofs.run.run_once.Given as goal
+use Rattle.server_rounds.specs.Runs.{HaveProducts}
+use Rattle.server_rounds.proofs.run.run_products.Given as goal
 
 abbrev pub invariant-loop-j : goal.invariant-loop-j
 invariant-loop-j g l =
@@ -17,7 +17,7 @@ invariant-loop-j g l =
       run : l.product.run ≡ l.run;
       j : l.product.j + 1 ≡ l._j;
       messages : (ms : List Message) × Went g.W.Wire.told g.W.Wire.alterations g.W.Wire.passes l.fn.wire ms l.wire
-          × IsSoFar l.ready.plan
+          × HaveProducts l.ready.plan
           (by_server (pieces_of (map held l.fn.shelves.zero.items)) (pieces_of (map held l.fn.shelves.one.items)) (pieces_of (map held l.fn.shelves.two.items)))
           l.run (views_of l.ready.keys) l._j l.product.chain ms;
     }

@@ -1,0 +1,5 @@
+pub mod Buckets
+pub mod Open
+pub mod Adding
+pub mod Parts
+pub mod Runs

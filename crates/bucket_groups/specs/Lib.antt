@@ -1,0 +1,5 @@
+pub mod Ending
+pub mod Grouped
+pub mod Laws
+pub mod Rounds
+pub mod Check

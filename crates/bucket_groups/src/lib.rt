@@ -1,0 +1,13 @@
+//! Totals by the buckets of a column: both runs of a query that end with an opening for each bucket, and their check, bucket by
+//! bucket.
+#![tactic(auto)]
+
+pub mod laws;
+mod check;
+mod part;
+mod rounds;
+mod run;
+mod sums;
+
+pub use check::{GroupAnswer, GroupAnswers, check_groups};
+pub use run::{GroupTotals, group_runs};

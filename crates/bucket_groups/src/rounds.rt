@@ -1,0 +1,134 @@
+//! The three messages of a step that comes after the products of the bits, at all servers.
+ghost use Rattle.std.specs.Prelude.{◌≡◌, ◌<◌, List, map, length, IfOk};
+ghost use Rattle.ring128.specs.Ring.{sums3};
+ghost use Rattle.wire_line.specs.declared.message.Message.{Message};
+ghost use Rattle.wire_line.specs.Messages.{Went};
+ghost use Rattle.onehot_column.specs.Code.{width_of};
+ghost use Rattle.server_rounds.specs.Groups.{by_server, AreLong, AreReshared, IsGroup};
+ghost use Rattle.server_rounds.specs.Plans.{views_of};
+ghost use Rattle.server_rounds.specs.Shelves.{AreShelves, pieces_of};
+ghost use Rattle.server_rounds.specs.declared.way.Way.TheVariants.{Around, ToClient};
+ghost use Rattle.bucket_groups.specs.Rounds.{AreOpened, AreValued, IsValuePart, buckets_of, values_of};
+
+use crate::part::{bucket_part, value_part};
+use ring128::{Memory, Words, add_into};
+use scan_chunks::Shelf;
+use server_rounds::{Held, Ready, Servers, Trio, Way, carry_three, reshare};
+use std::alloc::Global;
+use table_schema::Aggregate;
+use wire_line::Wire;
+
+// The products with the values, and the pairs that the servers then hold of them.
+fn value_round<S: Shelf, W: Wire>(
+    alloc: Global,
+    ready: &Ready,
+    chain: &Held,
+    shelves: &mut Servers<S>,
+    wire: &mut W,
+    run: u8,
+) -> Result<Held, Memory>
+    requires run { run < 2 }
+    requires chain { AreLong ready.now.plan.rows chain.now }
+    requires zero { AreShelves ready.now.plan.widths ready.now.plan.rows (map S.held shelves.old.zero.items) }
+    requires one { AreShelves ready.now.plan.widths ready.now.plan.rows (map S.held shelves.old.one.items) }
+    requires two { AreShelves ready.now.plan.widths ready.now.plan.rows (map S.held shelves.old.two.items) }
+    ensures zero { map S.held shelves.new.zero.items ≡ map S.held shelves.old.zero.items }
+    ensures one { map S.held shelves.new.one.items ≡ map S.held shelves.old.one.items }
+    ensures two { map S.held shelves.new.two.items ≡ map S.held shelves.old.two.items }
+    ensures long { IfOk result (λ held. AreLong ready.now.plan.rows held) }
+    ensures messages { let pieces = by_server (pieces_of (map S.held shelves.old.zero.items))
+        (pieces_of (map S.held shelves.old.one.items)) (pieces_of (map S.held shelves.old.two.items)) in
+        let views = views_of ready.now.keys in
+        (ms : List Message) × Went W.told W.alterations W.passes wire.old ms wire.new
+        × IsGroup Around (values_of ready.now.plan run views pieces chain.now) ms
+        × IfOk result (λ held. AreReshared held ms) }
+{
+    let zero = value_part(alloc, ready, 0, &mut shelves.zero, chain.zero(), run)?;
+    let one = value_part(alloc, ready, 1, &mut shelves.one, chain.one(), run)?;
+    let two = value_part(alloc, ready, 2, &mut shelves.two, chain.two(), run)?;
+    let held = reshare(alloc, wire, Trio { zero, one, two })?;
+    Ok(held)
+}
+
+/// What the servers hold before the openings: where rows are counted, the products of the bits; where values are summed, their
+/// products with the values.
+pub(crate) fn before_buckets<S: Shelf, W: Wire>(
+    alloc: Global,
+    ready: &Ready,
+    chain: Held,
+    shelves: &mut Servers<S>,
+    wire: &mut W,
+    run: u8,
+) -> Result<Held, Memory>
+    requires run { run < 2 }
+    requires chain { AreLong ready.now.plan.rows chain }
+    requires zero { AreShelves ready.now.plan.widths ready.now.plan.rows (map S.held shelves.old.zero.items) }
+    requires one { AreShelves ready.now.plan.widths ready.now.plan.rows (map S.held shelves.old.one.items) }
+    requires two { AreShelves ready.now.plan.widths ready.now.plan.rows (map S.held shelves.old.two.items) }
+    ensures zero { map S.held shelves.new.zero.items ≡ map S.held shelves.old.zero.items }
+    ensures one { map S.held shelves.new.one.items ≡ map S.held shelves.old.one.items }
+    ensures two { map S.held shelves.new.two.items ≡ map S.held shelves.old.two.items }
+    ensures long { IfOk result (λ held. AreLong ready.now.plan.rows held) }
+    ensures messages { let pieces = by_server (pieces_of (map S.held shelves.old.zero.items))
+        (pieces_of (map S.held shelves.old.one.items)) (pieces_of (map S.held shelves.old.two.items)) in
+        let views = views_of ready.now.keys in
+        (ms : List Message) × Went W.told W.alterations W.passes wire.old ms wire.new
+        × IsValuePart ready.now.plan.shape.aggregate (values_of ready.now.plan run views pieces chain) ms
+        × IfOk result (λ held. AreValued ready.now.plan.shape.aggregate chain ms held) }
+{
+    match ready.aggregate() {
+        Aggregate::Count => Ok(chain),
+        Aggregate::Sum => {
+            let held = value_round(alloc, ready, &chain, shelves, wire, run)?;
+            Ok(held)
+        }
+    }
+}
+
+// Each server sends its words to the client, which adds up what it received.
+fn opened<W: Wire>(wire: &mut W, words: Trio) -> Result<Words, Memory>
+    requires one { length words.one ≡ length words.zero }
+    requires two { length words.two ≡ length words.zero }
+    ensures { (ms : List Message) × Went W.told W.alterations W.passes wire.old ms wire.new
+        × IsGroup ToClient (by_server words.zero words.one words.two) ms
+        × IfOk result (λ totals. AreOpened ms totals) }
+{
+    let got = carry_three(wire, Way::ToClient, words)?;
+    let mut totals = got.zero.into_vec();
+    add_into(&mut totals, got.one.as_slice());
+    add_into(&mut totals, got.two.as_slice());
+    Ok(Words::from_vec(totals))
+}
+
+/// The openings, and the sums of the words that the client received, one a bucket.
+pub(crate) fn bucket_round<S: Shelf, W: Wire>(
+    alloc: Global,
+    ready: &Ready,
+    column: u8,
+    held: &Held,
+    shelves: &mut Servers<S>,
+    wire: &mut W,
+    run: u8,
+) -> Result<Words, Memory>
+    requires run { run < 2 }
+    requires column { column < ready.now.plan.widths.columns }
+    requires held { AreLong ready.now.plan.rows held.now }
+    requires zero { AreShelves ready.now.plan.widths ready.now.plan.rows (map S.held shelves.old.zero.items) }
+    requires one { AreShelves ready.now.plan.widths ready.now.plan.rows (map S.held shelves.old.one.items) }
+    requires two { AreShelves ready.now.plan.widths ready.now.plan.rows (map S.held shelves.old.two.items) }
+    ensures zero { map S.held shelves.new.zero.items ≡ map S.held shelves.old.zero.items }
+    ensures one { map S.held shelves.new.one.items ≡ map S.held shelves.old.one.items }
+    ensures two { map S.held shelves.new.two.items ≡ map S.held shelves.old.two.items }
+    ensures messages { let pieces = by_server (pieces_of (map S.held shelves.old.zero.items))
+        (pieces_of (map S.held shelves.old.one.items)) (pieces_of (map S.held shelves.old.two.items)) in
+        let views = views_of ready.now.keys in
+        (ms : List Message) × Went W.told W.alterations W.passes wire.old ms wire.new
+        × IsGroup ToClient (buckets_of ready.now.plan column run views pieces held.now) ms
+        × IfOk result (λ totals. AreOpened ms totals) }
+{
+    let zero = bucket_part(alloc, ready, 0, &mut shelves.zero, held.zero(), column, run)?;
+    let one = bucket_part(alloc, ready, 1, &mut shelves.one, held.one(), column, run)?;
+    let two = bucket_part(alloc, ready, 2, &mut shelves.two, held.two(), column, run)?;
+    let totals = opened(wire, Trio { zero, one, two })?;
+    Ok(totals)
+}
