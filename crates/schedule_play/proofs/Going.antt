@@ -9,7 +9,8 @@ use Rattle.wire_line.specs.Messages.{Went}
 use Rattle.wire_line.specs.declared.message.Message.{Message}
 use Rattle.schedule_play.specs.History.{Done, has_answer, is_answer, sent_by}
 use Rattle.schedule_play.specs.Stages.{actor_in}
-use Rattle.schedule_play.specs.Wires.{RoseAt, WireWent, WiresWent}
+use Rattle.schedule_play.specs.Wires.{WireWent, WiresWent}
+use Rattle.wire_line.specs.Lists.{RoseAt}
 
 -- ---- the messages of an actor's answers
 

@@ -21,7 +21,7 @@ use Rattle.schedule_play.specs.Stages.{Stage, actor_in, event_of, next_stage, st
 use Rattle.schedule_play.specs.Tasks.{Setting, room_of}
 use Rattle.schedule_play.specs.declared.play.PlayFault.TheVariants.{NotAllowed, Memory}
 use Rattle.schedule_play.specs.declared.style.Style.{Style}
-use Rattle.schedule_play.specs.Wires.{RoseAt}
+use Rattle.wire_line.specs.Lists.{RoseAt}
 use Rattle.schedule_play.proofs.Cases.{plain_is_plain, step_absent, step_is}
 use Rattle.schedule_play.proofs.Going.{rose_here, wires_none, wires_one, wires_still}
 

@@ -7,7 +7,8 @@ use Rattle.schedule_play.specs.History.{Breaks, Done, IsCarried, IsHistory}
 use Rattle.schedule_play.specs.Plain.{ArePlain}
 use Rattle.schedule_play.specs.Stages.{Stage, next_stage}
 use Rattle.schedule_play.specs.Tasks.{Setting}
-use Rattle.schedule_play.specs.Wires.{RoseAt, WiresWent}
+use Rattle.schedule_play.specs.Wires.{WiresWent}
+use Rattle.wire_line.specs.Lists.{RoseAt}
 use Rattle.schedule_play.specs.declared.play.PlayFault.{PlayFault}
 use Rattle.schedule_play.specs.declared.play.PlayFault.TheVariants.{NotAllowed, Memory}
 use Rattle.schedule_play.specs.declared.style.Style.{Style}

@@ -1,6 +1,5 @@
 -- What steps did to the wires: each answer's messages went over its actor's.
-use Rattle.std.specs.Prelude.{ℕ, zero, suc, ◌≡◌, ◌+◌, ⊤, ◌⊎◌, false, Option, List, [], ◌∷◌}
-use Rattle.fault_count.specs.Causes.{Rose}
+use Rattle.std.specs.Prelude.{ℕ, ◌≡◌, ◌+◌, ⊤, false, Option, List, [], ◌∷◌}
 use Rattle.wire_line.specs.Messages.{Went}
 use Rattle.wire_line.specs.declared.message.Message.{Message}
 use Rattle.schedule_play.specs.History.{Done, has_answer, sent_by}
@@ -18,16 +17,3 @@ WiresWent told alterations passes history actor [] (w ∷ ws) = ⊥
 WiresWent told alterations passes history actor (v ∷ vs) [] = ⊥
 WiresWent told alterations passes history actor (v ∷ vs) (w ∷ ws) =
     WireWent told alterations passes history actor v w × WiresWent told alterations passes history (actor + 1) vs ws
-
--- the count of alterations of one of the wires rose
-abbrev pub SomeRose : {W : Type 0} → (W → ℕ) → List W → List W → Type 0
-SomeRose alterations [] ws = ⊥
-SomeRose alterations (v ∷ vs) [] = ⊥
-SomeRose alterations (v ∷ vs) (w ∷ ws) = Rose (alterations v) (alterations w) ⊎ SomeRose alterations vs ws
-
--- the count of this actor's wire rose
-abbrev pub RoseAt : {W : Type 0} → (W → ℕ) → ℕ → List W → List W → Type 0
-RoseAt alterations actor [] ws = ⊥
-RoseAt alterations actor (v ∷ vs) [] = ⊥
-RoseAt alterations zero (v ∷ vs) (w ∷ ws) = Rose (alterations v) (alterations w)
-RoseAt alterations (suc actor) (v ∷ vs) (w ∷ ws) = RoseAt alterations actor vs ws

@@ -5,7 +5,8 @@ ghost use Rattle.schedule_play.specs.Leads.{Leads, Stops};
 ghost use Rattle.schedule_play.specs.Plays.{Plays, seen};
 ghost use Rattle.schedule_play.specs.Ready.{IsReady, stage_of};
 ghost use Rattle.schedule_play.specs.Tasks.{IsSetting, append_steps, ask_steps, asking, scheduled};
-ghost use Rattle.schedule_play.specs.Wires.{RoseAt, WiresWent};
+ghost use Rattle.schedule_play.specs.Wires.{WiresWent};
+ghost use Rattle.wire_line.specs.Lists.{RoseAt};
 ghost use Rattle.schedule_play.specs.declared.style.Style.TheVariants as styles;
 
 use crate::progress::Progress;

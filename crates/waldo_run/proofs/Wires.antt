@@ -4,7 +4,8 @@ use Rattle.fault_count.specs.Causes.{Rose}
 use Rattle.std.specs.Prelude.{Option}
 use Rattle.wire_line.specs.Carried.{went_none}
 use Rattle.wire_line.specs.declared.message.Message.{Message}
-use Rattle.schedule_play.specs.Wires.{RoseAt, SomeRose, WiresWent}
+use Rattle.schedule_play.specs.Wires.{WiresWent}
+use Rattle.wire_line.specs.Lists.{RoseAt, SomeRose}
 
 rose_by : (a b : ℕ) (t : Bool) → nat_le (min (a + 1) (2 ^ 64 - 1)) b ≡ t → Rose a b ⊎ (Rose a b → ⊥)
 rose_by a b true e = inl (grind arith)

@@ -3,7 +3,8 @@ ghost use Rattle.std.specs.Prelude.{◌≡◌, ◌≢◌, ◌≤◌, All, IfOk, 
 ghost use Rattle.schedule_play.specs.History.{Done};
 ghost use Rattle.schedule_play.specs.Plays.{Plays, seen};
 ghost use Rattle.schedule_play.specs.Tasks.{IsSetting};
-ghost use Rattle.schedule_play.specs.Wires.{RoseAt, WiresWent};
+ghost use Rattle.schedule_play.specs.Wires.{WiresWent};
+ghost use Rattle.wire_line.specs.Lists.{RoseAt};
 ghost use Rattle.table_schema.specs.Widths.{Holds};
 ghost use Rattle.waldo_run.specs.Replies.{IsReplyOf, checked_answer};
 ghost use Rattle.waldo_run.specs.Run.{AskedOver, BegunOver};

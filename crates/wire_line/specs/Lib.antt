@@ -1,4 +1,5 @@
 pub mod Carried
+pub mod Lists
 pub mod Messages
 pub mod ShiftLaws
 pub mod Shifts
