@@ -26,6 +26,3 @@ pub use key_tree::KeyFault;
 pub use level::CompareLevel;
 pub use tally::Tally;
 pub use words::{from_words, length, read_words, to_words};
-
-#[cfg(test)]
-mod tests;

@@ -27,6 +27,3 @@ pub fn raised(count: u64) -> u64
 {
     count.saturating_add(1)
 }
-
-#[cfg(test)]
-mod tests;

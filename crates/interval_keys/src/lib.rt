@@ -23,6 +23,3 @@ mod words;
 pub use key::{IntervalKey, generate, table, value};
 pub use key_tree::KeyFault;
 pub use words::{from_words, length, read_words, to_words};
-
-#[cfg(test)]
-mod tests;

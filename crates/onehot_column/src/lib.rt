@@ -17,6 +17,3 @@ mod piece;
 
 pub use coding::code;
 pub use piece::{Piece, RowPieces, pieces};
-
-#[cfg(test)]
-mod tests;

@@ -23,10 +23,3 @@ pub use query::{Predicate, Query, QueryFault, QueryWhy, shape_of};
 pub use read::read_query;
 pub use server_keys::ServerKeys;
 pub use weights::key_of;
-
-#[cfg(test)]
-mod keys_tests;
-#[cfg(test)]
-mod message_tests;
-#[cfg(test)]
-mod tests;

@@ -21,6 +21,3 @@ mod three;
 pub use pair::{Pair, add_pairs, reveal, scale_pair};
 pub use pair_list::PairList;
 pub use three::{Three, split};
-
-#[cfg(test)]
-mod tests;

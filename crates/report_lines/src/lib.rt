@@ -22,6 +22,3 @@ pub use lines::{Line, RowWhy, Who};
 pub use names::NameText;
 pub use reports::{Report, text};
 pub use sink::{Failed, MemorySink, Sink, SureSink};
-
-#[cfg(test)]
-mod tests;

@@ -24,6 +24,3 @@ pub use input::{LIMIT, ReadFault, read_all};
 pub use read::read_rows;
 pub use report_lines::RowWhy;
 pub use source::{Failed, MemorySource, Source, SureSource};
-
-#[cfg(test)]
-mod tests;

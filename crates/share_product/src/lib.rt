@@ -16,6 +16,3 @@ pub mod laws;
 mod product;
 
 pub use product::{accept_reshare, inner, local, local_rows};
-
-#[cfg(test)]
-mod tests;

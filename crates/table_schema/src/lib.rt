@@ -29,6 +29,3 @@ pub use rows::Row;
 pub use schema::{Column, Schema};
 pub use shapes::{Aggregate, Kind, Part, Shape};
 pub use widths::Widths;
-
-#[cfg(test)]
-mod tests;

@@ -26,6 +26,3 @@ mod numbers;
 
 pub use cuts::{count_pieces, cut, cut_last};
 pub use numbers::number;
-
-#[cfg(test)]
-mod tests;

@@ -38,6 +38,3 @@ pub use read::read_words;
 pub use report_lines::NameText;
 pub use schedule::{Schedule, Step};
 pub use shifts::{Amount, ShiftWord, ShiftWords};
-
-#[cfg(test)]
-mod tests;

@@ -36,6 +36,3 @@ pub fn check(total: u128, weighted: u128, key: u128) -> Result<u64, Altered>
         Err(Altered { total, weighted })
     }
 }
-
-#[cfg(test)]
-mod tests;

@@ -15,6 +15,3 @@ pub mod laws;
 mod seeds;
 
 pub use seeds::ZeroSeeds;
-
-#[cfg(test)]
-mod tests;

@@ -1,4 +1,4 @@
-use crate::{Line, MemorySink, NameText, Report, RowWhy, Sink, SureSink, Who, text};
+use report_lines::{Line, MemorySink, NameText, Report, RowWhy, Sink, SureSink, Who, text};
 use std::test::Fail;
 use table_schema::Aggregate;
 

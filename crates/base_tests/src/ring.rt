@@ -1,4 +1,4 @@
-use super::*;
+use ring128::*;
 use std::test::Fail;
 
 #[test]

@@ -1,4 +1,4 @@
-use super::*;
+use zero_share::*;
 use prg_chacha::Seed;
 
 const ZEROS: Seed = Seed { words: [0; 8] };

@@ -1,4 +1,4 @@
-use super::*;
+use replicated_share::*;
 use prg_chacha::Seed;
 use std::test::Fail;
 

@@ -1,6 +1,6 @@
 ghost use Rattle.std.specs.Prelude.{◌<◌, ◌≤◌, ◌^◌};
 
-use crate::{MessageFault, ServerKeys, read_message, read_query, shape_of};
+use query_plan::{MessageFault, ServerKeys, read_message, read_query, shape_of};
 use prg_chacha::Seed;
 use ring128::{Party, Words, add};
 use std::alloc::Global;

@@ -1,4 +1,4 @@
-use crate::raised;
+use fault_count::raised;
 
 #[test]
 fn counts(rt: HostRuntime) {

@@ -1,4 +1,4 @@
-use super::*;
+use share_product::*;
 use prg_chacha::Seed;
 use replicated_share::{Pair, PairList, split};
 use ring128::{Memory, Words};

@@ -1,4 +1,4 @@
-use crate::{Aggregate, Kind, Part, Row, SchemaFault, SchemaWhy, Shape, read_schema};
+use table_schema::{Aggregate, Kind, Part, Row, SchemaFault, SchemaWhy, Shape, read_schema};
 use std::test::Fail;
 
 const NO_FAULT: Option<SchemaFault> = None;

@@ -1,4 +1,4 @@
-use crate::{Predicate, QueryFault, QueryWhy, read_query, shape_of};
+use query_plan::{Predicate, QueryFault, QueryWhy, read_query, shape_of};
 use std::test::Fail;
 use table_schema::{Aggregate, Kind, Part, read_schema};
 

@@ -1,6 +1,6 @@
 ghost use Rattle.std.specs.Prelude.{◌<◌};
 
-use crate::{Keys, ServerKeys, key_of, make_keys, read_message, read_query};
+use query_plan::{Keys, ServerKeys, key_of, make_keys, read_message, read_query};
 use prg_chacha::Seed;
 use ring128::{Party, add, mul};
 use std::alloc::Global;

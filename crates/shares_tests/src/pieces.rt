@@ -1,4 +1,4 @@
-use super::*;
+use onehot_column::*;
 use prg_chacha::Seed;
 use replicated_share::reveal;
 use std::test::Fail;

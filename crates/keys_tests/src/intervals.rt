@@ -1,4 +1,4 @@
-use super::*;
+use interval_keys::*;
 use prg_chacha::Seed;
 use ring128::{Party, add};
 use std::test::Fail;

@@ -1,4 +1,4 @@
-use crate::{
+use waldo_words::{
     Amount, Command, Common, Queries, Schedule, ShiftWord, ShiftWords, Step, WordFault, read_words,
 };
 use query_plan::Query;

@@ -1,4 +1,4 @@
-use crate::{count_pieces, cut, number};
+use text_reading::{count_pieces, cut, number};
 
 #[test]
 fn numbers(rt: HostRuntime) {

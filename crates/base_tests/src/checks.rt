@@ -1,4 +1,4 @@
-use crate::{Altered, check};
+use weighted_check::{Altered, check};
 
 #[test]
 fn checks(rt: HostRuntime) {
