@@ -1,7 +1,7 @@
 use Rattle.std.proofs.Common.{rules}
 use Rattle.std.specs.Prelude.{IsTrue}
 use Rattle.query_plan.proofs.Legal.{parts_there}
-use Rattle.query_plan.proofs.message_tests.read.Goals as goal
+use Rattle.keys_tests.proofs.messages.read.Goals as goal
 
 pub read_message-requires-clause-there : goal.read_message-requires-clause-there
 read_message-requires-clause-there c =
