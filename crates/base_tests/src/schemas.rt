@@ -1,5 +1,5 @@
-use table_schema::{Aggregate, Kind, Part, Row, SchemaFault, SchemaWhy, Shape, read_schema};
 use std::test::Fail;
+use table_schema::{Aggregate, Kind, Part, Row, SchemaFault, SchemaWhy, Shape, read_schema};
 
 const NO_FAULT: Option<SchemaFault> = None;
 

@@ -207,11 +207,11 @@ group_pairs_open s query weights rows ms column ones there asks ending t honest 
     let answers = grouped query column (width_of s.sizes.widths column) rows in
     let one = key_from-ones (weights 0) (query.count) ones in (
       groups_open s query weights rows ms 0 column (omega arith) there asks ending t honest
-      ∙ ext_get_or 0 _ _ (length-map answers _ ∙ sym (length-map answers _))
-      (λ i h. let b : i < length answers = omega (arith, length-map answers (λ (answer : ℤ). times (key_from (weights 0) query.count) (word_of answer))) in
-      get_or-map _ answers i (plain query []) 0 b
-      ∙ rw one (omega (arith, word_of-below (get_or answers i (plain query []))))
-      ∙ sym (get_or-map word_of answers i (plain query []) 0 b)),
+          ∙ ext_get_or 0 _ _ (length-map answers _ ∙ sym (length-map answers _))
+          (λ i h. let b : i < length answers = omega (arith, length-map answers (λ (answer : ℤ). times (key_from (weights 0) query.count) (word_of answer))) in
+          get_or-map _ answers i (plain query []) 0 b
+          ∙ rw one (omega (arith, word_of-below (get_or answers i (plain query []))))
+          ∙ sym (get_or-map word_of answers i (plain query []) 0 b)),
       groups_open s query weights rows ms 1 column (omega arith) there asks ending t honest,
     )
 

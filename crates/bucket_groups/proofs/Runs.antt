@@ -107,7 +107,7 @@ whole_groups z column keys read pieces views ks ms ns totals weighted b0 b1 run0
     let w = width_of z.widths column in (
       record { part = part; full = omega (arith, length-append (ks ++ ms) ns, b1.long, run1.full) },
       listed_is w (opened_at s ((ks ++ ms) ++ ns) 0) 0 totals run0.long
-      (λ b h. (run0.at b h).sum keys read ks b0 ∙ sym (opened_stays s (ks ++ ms) ns 0 b (omega (arith, b1.long)) run0.some)),
+          (λ b h. (run0.at b h).sum keys read ks b0 ∙ sym (opened_stays s (ks ++ ms) ns 0 b (omega (arith, b1.long)) run0.some)),
       listed_is w (opened_at s ((ks ++ ms) ++ ns) 1) 0 weighted run1.long (λ b h. (run1.at b h).sum keys read (ks ++ ms) b1),
     )
 

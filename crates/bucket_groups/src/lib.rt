@@ -2,8 +2,8 @@
 //! bucket.
 #![tactic(auto)]
 
-pub mod laws;
 mod check;
+pub mod laws;
 mod part;
 mod rounds;
 mod run;

@@ -1,7 +1,7 @@
 ghost use Rattle.std.specs.Prelude.{◌<◌, ◌≤◌, ◌^◌};
 
-use query_plan::{MessageFault, ServerKeys, read_message, read_query, shape_of};
 use prg_chacha::Seed;
+use query_plan::{MessageFault, ServerKeys, read_message, read_query, shape_of};
 use ring128::{Party, Words, add};
 use std::alloc::Global;
 use std::test::Fail;

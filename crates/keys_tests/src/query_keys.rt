@@ -1,7 +1,7 @@
 ghost use Rattle.std.specs.Prelude.{◌<◌};
 
-use query_plan::{Keys, ServerKeys, key_of, make_keys, read_message, read_query};
 use prg_chacha::Seed;
+use query_plan::{Keys, ServerKeys, key_of, make_keys, read_message, read_query};
 use ring128::{Party, add, mul};
 use std::alloc::Global;
 use std::test::Fail;

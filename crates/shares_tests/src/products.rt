@@ -1,7 +1,7 @@
-use share_product::*;
 use prg_chacha::Seed;
 use replicated_share::{Pair, PairList, split};
 use ring128::{Memory, Words};
+use share_product::*;
 use std::alloc::Global;
 use std::test::Fail;
 use zero_share::ZeroSeeds;

@@ -1,5 +1,5 @@
-use replicated_share::*;
 use prg_chacha::Seed;
+use replicated_share::*;
 use std::test::Fail;
 
 const ZERO: Seed = Seed { words: [0; 8] };

@@ -1,5 +1,5 @@
-use zero_share::*;
 use prg_chacha::Seed;
+use zero_share::*;
 
 const ZEROS: Seed = Seed { words: [0; 8] };
 

@@ -1,10 +1,10 @@
-use waldo_words::{
-    Amount, Command, Common, Queries, Schedule, ShiftWord, ShiftWords, Step, WordFault, read_words,
-};
 use query_plan::Query;
 use std::alloc::{AllocError, Global};
 use std::test::Fail;
 use table_schema::{Aggregate, Kind};
+use waldo_words::{
+    Amount, Command, Common, Queries, Schedule, ShiftWord, ShiftWords, Step, WordFault, read_words,
+};
 
 /// Words, and what is told of them: that they are read, the index of a bad word, or what is missing.
 type Case = (&'static str, u64, &'static str);

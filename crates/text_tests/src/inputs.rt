@@ -1,4 +1,6 @@
-use row_source::{MemorySource, ReadFault, RowFault, RowWhy, Source, SureSource, read_all, read_rows};
+use row_source::{
+    MemorySource, ReadFault, RowFault, RowWhy, Source, SureSource, read_all, read_rows,
+};
 use std::fmt::Write;
 use std::test::Fail;
 use table_schema::read_schema;
