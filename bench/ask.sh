@@ -6,10 +6,10 @@
 # The program is run as the launcher runs it, with large pages; GLIBC_TUNABLES= before a script times it without.
 # Usage: bench/ask.sh [RUNS]
 set -eu
-home=$(dirname "$(readlink -f "$0")")/..
-program=$home/crates/waldo_cli/out/waldo_cli
+. "$(dirname "$(readlink -f "${BASH_SOURCE[0]}")")/common.sh"
+need python3 awk
+need_program
 runs=${1:-3}
-export GLIBC_TUNABLES=${GLIBC_TUNABLES-glibc.malloc.hugetlb=1:glibc.malloc.top_pad=33554432}
 input=$(mktemp)
 trap 'rm -f "$input"' EXIT
 

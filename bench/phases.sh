@@ -4,10 +4,11 @@
 # step of bits or product.
 # Usage: bench/phases.sh INPUT WORD.. (the program's words), as: bench/phases.sh rows.csv ask host:5 --query "count host=3"
 set -eu
-home=$(dirname "$(readlink -f "$0")")/..
-program=$home/crates/waldo_cli/out/waldo_cli
+. "$(dirname "$(readlink -f "${BASH_SOURCE[0]}")")/common.sh"
+need perf awk
+need_program
+[ -r "${1-}" ] || { echo "phases.sh: name an input, and then the program's words" >&2; exit 2; }
 input=$1; shift
-export GLIBC_TUNABLES=${GLIBC_TUNABLES-glibc.malloc.hugetlb=1:glibc.malloc.top_pad=33554432}
 data=$(mktemp)
 trap 'rm -f "$data"' EXIT
 perf record -q -F 5000 -o "$data" "$program" "$@" < "$input"
