@@ -1,5 +1,5 @@
-//! Waldo's `ask` and `make` as a plain program without proofs, to be timed beside the proved one. It is written from
-//! `docs/formats.md` and `docs/protocol.md` alone: the same seeds, shares, keys, messages and printed lines.
+//! Waldo's `ask` and `make` as a plain program without proofs, to be timed beside the proved one. It follows
+//! `docs/formats.md` and `docs/protocol.md`: the same seeds, shares, keys, messages and printed lines.
 //!
 //! `plain ask|make SCHEMA --query QUERY .. [--seed HEX] [--number N --rows N] [--workers N] [--sharers N] [--messages]`
 //! `--workers` scans, multiplies and opens on N threads, `--sharers` splits the rows on N threads, and `--messages`
