@@ -3,7 +3,7 @@ home=$(dirname "$(readlink -f "${BASH_SOURCE[0]}")")/..
 program=${WALDO_PROGRAM:-$home/crates/waldo_cli/out/waldo_cli}
 # As the launcher sets it, unless it is set already; `GLIBC_TUNABLES=` before a script times the program without.
 if [ -z "${GLIBC_TUNABLES+set}" ]; then
-  GLIBC_TUNABLES=$(sed -n 's/^memory_setting=//p' "$home/waldo")
+  GLIBC_TUNABLES=$(sed -n 's/^memory_setting=//p' "$home/launcher/run.sh")
   export GLIBC_TUNABLES LD_BIND_NOW=1
 fi
 

@@ -1,6 +1,5 @@
 #!/usr/bin/env bash
-# Drives the completion for bash with lines as they are typed, compares its commands and options with the guide's, and lets zsh
-# read its own where there is a zsh.
+# Drives the completions for bash and zsh with lines as they are typed, and compares their commands and options with the guide's.
 set -u
 cd "$(dirname "$0")/.." || exit 2
 . completions/waldo.bash
@@ -24,14 +23,19 @@ offered() {
 while IFS='|' read -r line wanted; do
   [ -z "$line" ] || differs "$line" "$wanted" "$(offered "$line")"
 done <<'LINES'
-./waldo |ask,help,make,replay
-./waldo r|replay
+./waldo s|schema
+./waldo rep|replay
 ./waldo x|
-./waldo help m|make
+./waldo help mak|make
 ./waldo ask ho|
 ./waldo ask host:2 |--capacity,--query,--seed,--workers
 ./waldo ask host:2 --w|--workers
-./waldo ask host:2 --workers |
+./waldo ask host:2 --workers 1|1,10,11,12,13,14,15,16
+./waldo ask host:2 --workers=3|3
+./waldo ask host:2 --seed |
+./waldo help sch|schedules,schema,schemas
+./waldo schema exa|
+./waldo replay host:2 --schedule "d0 p|d0 p0.0,d0 p0.1,d0 p0.2
 ./waldo ask host:2 --workers 2 --w|
 ./waldo ask host:2 --workers=2 --|--capacity,--query,--seed
 ./waldo ask host:2 --query "count host=3" --q|--query
@@ -52,10 +56,11 @@ done <<'LINES'
 LINES
 
 # The guide's table of options, for each command of its summary.
-commands=$(awk '$1 == "waldo" { print $2 } /^## ask/ { exit }' docs/guide.md)
-differs commands "$(printf '%s\n' "$commands" help | LC_ALL=C sort | paste -sd, -)" "$(offered './waldo ')"
+commands=$(awk '$1 == "waldo" && $3 == "SCHEMA" { print $2 } /^## ask/ { exit }' docs/guide.md)
+differs commands "$(printf '%s\n' "$commands" schema help | LC_ALL=C sort | paste -sd, -)" "$(offered './waldo ')"
 for command in $commands; do
-  options=$(grep '^| `--' docs/guide.md | awk -F ' *[|] *' -v c="\`$command\`" '$3 == "all" || index($3, c) { gsub(/`/, "", $2); print $2 }' | LC_ALL=C sort)
+  options=$(grep '^| `--' docs/guide.md | awk -F ' *[|] *' -v c="\`$command\`" \
+    '$3 == "all" || index($3, c) { gsub(/`/, "", $2); print $2 }' | LC_ALL=C sort)
   differs "options of $command" "$(paste -sd, - <<<"$options")" "$(offered "./waldo $command host:2 --")"
   if command -v zsh >/dev/null; then
     zsh_options=$(zsh -fc 'words=(waldo '"$command"' host:2 ""); CURRENT=4; compdef() { : }; compset() { : }
@@ -66,6 +71,20 @@ for command in $commands; do
 done
 many="./waldo ask host:2$(printf ' --query "count host=1"%.0s' {1..16}) --"
 differs "a 17th query" "--capacity,--seed,--workers" "$(offered "$many")"
-! command -v zsh >/dev/null || zsh -n completions/_waldo || failed=1
+
+# What an interactive zsh offers. Inside a quote it completes word by word.
+if command -v zsh >/dev/null && zsh -fc 'zmodload zsh/zpty' 2>/dev/null; then
+  while IFS='|' read -r line wanted; do
+    differs "$line in zsh" "$wanted" "$(timeout 60 zsh -f completions/offered.zsh "$line" </dev/null)"
+  done <<'LINES'
+./waldo help sch|schedules,schema,schemas
+./waldo ask host:2 --workers |1,10,11,12,13,14,15,16,2,3,4,5,6,7,8,9
+./waldo ask host:2,load:4@0/10 --query "|count,sum
+./waldo ask host:2,load:4@0/10 --query "count host=3 |load<=,load=
+./waldo replay host:2 --schedule "d0 p|p0.0,p0.1,p0.2
+LINES
+else
+  echo "skipped, since there is no zsh: what it offers"
+fi
 [ $failed -eq 0 ] && echo "completions offer what they should"
 exit $failed

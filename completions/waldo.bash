@@ -1,5 +1,22 @@
-# Completion of Waldo's words for bash: source this file. It offers commands, the options that a command has left, and, in
-# the value of --query, the columns of the schema that stands before it.
+# Completion of Waldo's words for bash: source this file. It offers commands and topics, the options that a command has left, and their
+# values: in that of --query the columns of the schema that stands before it, steps of a schedule, numbers of a short range.
+# Commands, options and what these take come from the guide.
+
+_waldo_home=$(dirname "$(readlink -f "${BASH_SOURCE[0]}")")
+
+# Lines of the guide's words, read at the first completion: command NAME ROWS, and option COMMAND NAME TAKEN, with tabs.
+_waldo_lines() {
+  [[ -n ${_waldo_guide-} ]] || _waldo_guide=$(awk -f "$_waldo_home/../launcher/words.awk" "$_waldo_home/../docs/guide.md" 2>/dev/null)
+  printf '%s\n' "$_waldo_guide"
+}
+
+_waldo_commands() { _waldo_lines | awk '$1 == "command" { print $2 }'; }
+
+# What an option takes, where that is a short range of numbers.
+_waldo_numbers() { # command, option
+  _waldo_lines | awk -F '\t' -v command="$1" -v option="$2" '$1 == "option" && $2 == command && $3 == option { print $4 }' |
+    sed -n 's/^a number from \([0-9]*\) to \([0-9]\{1,2\}\)$/\1 \2/p' | while read -r first last; do seq "$first" "$last"; done
+}
 
 # Cuts the line up to the cursor into words as the shell would, with their quotes taken off. Bash's own list of words is cut at
 # `=`, `:` and `@` too. `_waldo_quote` is the quote that is open at the cursor.
@@ -25,13 +42,8 @@ _waldo_words() {
 
 # The options of a command that may still stand; words behind the first are those that stand already.
 _waldo_options() {
-  local all option word seen
-  case $1 in
-    ask) all='--query --capacity --seed --workers' ;;
-    replay) all='--query --schedule --capacity --seed --workers' ;;
-    make) all='--query --number --rows --seed --workers' ;;
-  esac
-  for option in $all; do
+  local option word seen
+  for option in $(_waldo_lines | awk -v command="$1" '$1 == "option" && $2 == command { print $3 }'); do
     seen=0
     for word in "${@:2}"; do [[ ${word%%=*} == "$option" ]] && ((seen++)); done
     if ((seen == 0)) || [[ $option == --query && $seen -lt 16 ]]; then echo "$option"; fi
@@ -40,21 +52,28 @@ _waldo_options() {
 
 # The texts that a query, as far as it is typed, can go on with: a column that has no predicate yet, with `=` and `<=`.
 _waldo_queries() {
-  local schema=$1 text=$2 front fronts piece='' pieces column columns
+  local schema=$1 text=$2 begun beginnings piece='' pieces column columns
   if [[ $text == *' '* ]]; then
-    fronts=("${text% *}")
+    beginnings=("${text% *}")
     piece=${text##* }
   else
-    mapfile -t fronts < <(compgen -W 'count sum' -- "$text")
+    mapfile -t beginnings < <(compgen -W 'count sum' -- "$text")
   fi
   IFS=, read -ra columns <<<"$schema"
-  for front in "${fronts[@]}"; do
-    read -ra pieces <<<"$front"
+  for begun in "${beginnings[@]}"; do
+    read -ra pieces <<<"$begun"
     [[ ${pieces[0]-} == @(count|sum) && ${#pieces[@]} -lt 5 && $piece != *[=\<]* ]] || continue
     for column in "${columns[@]%%:*}"; do
-      [[ $column == "$piece"* && $front != *" $column"[=\<]* ]] && printf '%s\n' "$front $column=" "$front $column<="
+      [[ $column == "$piece"* && $begun != *" $column"[=\<]* ]] && printf '%s\n' "$begun $column=" "$begun $column<="
     done
   done
+}
+
+# The texts that a schedule, as far as it is typed, can go on with: one more step of actor 0.
+_waldo_steps() {
+  local begun=''
+  [[ $1 == *' '* ]] && begun="${1% *} "
+  compgen -W 'd0 p0.0 p0.1 p0.2 l0.0 f0 a0.0' -- "${1##* }" | sed "s/^/$begun/"
 }
 
 _waldo() {
@@ -67,9 +86,13 @@ _waldo() {
   if [[ $before == *'<' || $before == *'>' || $current == '<'* ]]; then
     compopt -o default 2>/dev/null
   elif ((last == 1)); then
-    mapfile -t COMPREPLY < <(compgen -W 'ask replay make help' -- "$current")
+    mapfile -t COMPREPLY < <(compgen -W "$(_waldo_commands) schema help" -- "$current")
   elif [[ ${words[1]} == help ]]; then
-    ((last == 2)) && mapfile -t COMPREPLY < <(compgen -W 'ask replay make' -- "$current")
+    ((last == 2)) && mapfile -t COMPREPLY < <(
+      compgen -W "$(_waldo_commands) schema commands schemas queries rows schedules messages" -- "$current"
+    )
+  elif [[ ${words[1]} == schema ]]; then
+    compopt -o default 2>/dev/null
   elif ((last == 2)); then
     :
   elif [[ $before == --query || $current == --query=* ]]; then
@@ -79,7 +102,16 @@ _waldo() {
     [[ -n $_waldo_quote ]] || open='"'
     mapfile -t COMPREPLY < <(_waldo_queries "${words[2]}" "$value" | sed "s/^/$open/")
     compopt -o nospace 2>/dev/null
-  elif [[ $before != --* || $before == *=* ]]; then
+  elif [[ $before == --schedule || $current == --schedule=* ]]; then
+    [[ $before == --schedule ]] && value=$current || value=${current#--schedule=}
+    [[ -n $_waldo_quote ]] || open='"'
+    mapfile -t COMPREPLY < <(_waldo_steps "$value" | sed "s/^/$open/")
+    compopt -o nospace 2>/dev/null
+  elif [[ $before == --* && $before != *=* ]]; then
+    mapfile -t COMPREPLY < <(compgen -W "$(_waldo_numbers "${words[1]}" "$before")" -- "$current")
+  elif [[ $current == --*=* ]]; then
+    mapfile -t COMPREPLY < <(compgen -W "$(_waldo_numbers "${words[1]}" "${current%%=*}")" -- "${current#*=}")
+  else
     mapfile -t COMPREPLY < <(compgen -W "$(_waldo_options "${words[1]}" "${words[@]:3:last-3}")" -- "$current")
   fi
 }

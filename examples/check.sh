@@ -1,7 +1,8 @@
 #!/usr/bin/env bash
 # Runs each command of this folder's page and of the guide, and compares text and status with what the page says. A block of
 # `sh` is a command and the block of `text` behind it is what it prints; the status is 0 unless the words before say
-# "Status 5.", and so on. Then it compares what the launcher says of refused words with the guide's table.
+# "Status 5.", and so on. Then it compares what the launcher says of refused words with the guide's table, and looks that each
+# command that help and the man page show is one of those that were run.
 set -u
 cd "$(dirname "$0")/.." || exit 2
 failed=0
@@ -44,13 +45,34 @@ check_launcher() {
   done < <(sed -n '/^| words | the line |/,/^$/p' docs/guide.md | grep '`waldo: ')
 }
 
+# The commands of help's topics and of the man page, one a line, as they are written in the pages.
+shown_commands() {
+  local topic
+  for topic in $(./waldo help | awk '$1 == "waldo" && $3 == "SCHEMA" { print $2 }') schema commands schemas queries rows schedules messages; do
+    ./waldo help "$topic" | sed -n 's/^ *\(\.\/waldo [^h].*\)/\1/p'
+  done
+  sed -n '/^\.SH EXAMPLES/,/^\.SH SEE/p' docs/waldo.1 | sed -e ':more' -e '/\\e$/{N;s/\\e\n */ /;b more' -e '}' |
+    sed -n 's/\\-/-/g; s/  */ /g; s/^waldo/.\/waldo/p'
+}
+
+check_shown() {
+  local command
+  while IFS= read -r command; do
+    grep -qxF -- "$command" docs/guide.md examples/README.md || differs "help or the man page" "a command that a page runs" "$command"
+    checked=$((checked + 1)) shown=$((shown + 1))
+  done < <(shown_commands)
+}
+
+shown=0
 check_page examples/README.md
 check_page docs/guide.md
 check_launcher
+check_shown
 # Each block of `sh` and each line of the table was compared, and there are some.
 calls=$(cat examples/README.md docs/guide.md | grep -c '^```sh$')
 rows=$(sed -n '/^| words | the line |/,/^$/p' docs/guide.md | grep -c '`waldo: ')
-differs "commands checked" "$((calls + rows))" "$checked"
+differs "commands checked" "$((calls + rows + shown))" "$checked"
+[ "$shown" -gt 8 ] || { echo "help and the man page show only $shown commands"; failed=1; }
 [ "$checked" -gt 30 ] || { echo "only $checked commands were found"; failed=1; }
 [ $failed -eq 0 ] && echo "$checked commands print what the pages say"
 exit $failed

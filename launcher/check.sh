@@ -1,0 +1,368 @@
+#!/usr/bin/env bash
+# Attacks the launcher with a program and a prover that are fakes, in a copy of its files under an odd name. Nothing is proved or
+# built here, and it takes some seconds. What a machine lacks is skipped with a line. Words name the checks to make, as `signals`.
+set -u
+cd "$(dirname "$0")/.." || exit 2
+room=$(mktemp -d) || exit 2
+trap 'chmod -R u+w -- "$room"; rm -rf -- "$room"' EXIT
+unset GLIBC_TUNABLES
+tree="$room/odd 'name\" with
+a line feed"
+failed=0 cases=0
+
+is() { # what, wanted, got
+  cases=$((cases + 1))
+  [ "$2" = "$3" ] && return
+  printf 'FAILED: %s\n  wanted %s\n  got    %s\n' "$1" "$2" "$3"
+  failed=1
+}
+has() { # what, wanted part, got
+  cases=$((cases + 1))
+  [[ $3 == *"$2"* ]] && return
+  printf 'FAILED: %s\n  wanted .. %s ..\n  got    %s\n' "$1" "$2" "$3"
+  failed=1
+}
+skip() { echo "skipped, $1"; }
+exists() { if [ -e "$1" ]; then echo yes; else echo no; fi; }
+
+# The fake program says TEXT and ends with STATUS; it writes down that it ran, and sleeps if it is told to.
+make_tree() {
+  mkdir -p "$tree/crates/waldo_cli/src" "$tree/crates/low/src" "$tree/crates/low/specs/deep" "$tree/built" "$room/bin"
+  cp -r waldo launcher docs README.md install.sh completions "$tree"
+  echo 'Handles allowed: none.' >"$tree/HANDLES"
+  printf 'low:\nwaldo_cli: low\n' >"$tree/crates.txt"
+  echo 'fn main() {}' | tee "$tree/crates/waldo_cli/src/main.rt" "$tree/crates/low/src/lib.rt" >"$tree/crates/low/specs/deep/words.rt"
+  cat >"$room/program" <<'PROGRAM'
+#!/bin/sh
+echo $$ >>"$ROOM/ran"
+echo "${GLIBC_TUNABLES-none}" >"$ROOM/settings"
+[ -z "${SLEEP-}" ] || exec sleep 60
+[ -z "${READ-}" ] || cat
+printf "${TEXT-answer\n}"
+exit "${STATUS-0}"
+PROGRAM
+  cat >"$room/bin/rt" <<'PROVER'
+#!/bin/sh
+echo "$PWD: $*" >>"$ROOM/proved"
+[ -z "${SLEEP_RT-}" ] || { echo $$ >"$ROOM/rt"; sleep 60; }
+[ -z "${BREAK-}" ] || { echo "error: a goal is open"; exit 1; }
+[ -z "${EDIT-}" ] || echo '// more' >>../low/src/lib.rt
+sleep 0.3
+mkdir -p out
+{ cat "$ROOM/program"; echo "# built"; } >out/waldo_cli
+chmod +x out/waldo_cli
+echo 'ask 0 rows 1 count 1'
+PROVER
+  chmod +x "$room/program" "$room/bin/rt"
+  export ROOM=$room PATH=$room/bin:$PATH
+  place
+}
+
+# Puts the fake program into the tree as one that was built of its sources.
+place() {
+  mkdir -p "$tree/built"
+  cp "$room/program" "$tree/built/waldo_cli"
+  (home=$tree && . "$tree/launcher/fresh.sh" && checksums built/waldo_cli >"$tree/built/sources")
+  rm -f "$room/ran" "$room/proved"
+}
+
+# Runs the launcher: text, lines and status are left in `out`, `err` and `status`.
+call() {
+  out=$("$tree/waldo" "$@" 2>"$room/err" </dev/null; echo ":$?")
+  status=${out##*:} out=${out%:*} err=$(cat "$room/err")
+}
+
+check_writes() {
+  local command text
+  for command in ask replay make; do
+    for text in 0:4 2:2 3:3 5:5 6:6 7:7; do
+      STATUS=${text%:*} "$tree/waldo" $command host:2 >/dev/full 2>/dev/null </dev/null
+      is "a full disk, $command, status ${text%:*}" "${text#*:}" $?
+      STATUS=${text%:*} "$tree/waldo" $command host:2 >&- 2>/dev/null </dev/null
+      is "a closed output, $command, status ${text%:*}" "${text#*:}" $?
+    done
+  done
+  STATUS=5 "$tree/waldo" ask host:2 2>/dev/null </dev/null | :
+  is "a reader that has ended, status 5" 5 "${PIPESTATUS[0]}"
+  TEXT= "$tree/waldo" ask host:2 >/dev/full 2>/dev/null </dev/null
+  is "nothing to write to a full disk" 0 $?
+  "$tree/waldo" help >/dev/full 2>"$room/err"
+  is "help to a full disk" "4 1" "$? $(wc -l <"$room/err")"
+  out=$(TEXT='a\n\nb\n\n\n' "$tree/waldo" ask </dev/null; echo .)
+  is "line feeds at the end of a text" $'a\n\nb\n\n\n.' "$out"
+}
+
+check_streams() {
+  READ=yes "$tree/waldo" ask host:2 <&- >/dev/null 2>"$room/err"
+  has "a closed input is one that can't be read" "cat" "$(cat "$room/err")"
+  STATUS=3 "$tree/waldo" ask host:2 <&- >&- 2>&-
+  is "all streams closed" 3 $?
+  is "an input comes through" "rows" "$(printf rows | READ=yes TEXT= "$tree/waldo" ask host:2)"
+}
+
+# Waits until a file is there, for ten seconds at most.
+wait_for() {
+  local turn
+  for turn in {1..100}; do [ -s "$1" ] && return; sleep 0.1; done
+  echo "FAILED: $1 did not come"
+  failed=1
+}
+
+# The fakes sleep for a minute, which nothing waits for.
+check_signals() {
+  local signal child launcher start=$SECONDS
+  for signal in TERM:143 HUP:129; do
+    rm -f "$room/ran"
+    SLEEP=yes "$tree/waldo" ask host:2 >/dev/null 2>&1 </dev/null &
+    launcher=$!
+    wait_for "$room/ran"
+    kill -s "${signal%:*}" $launcher
+    { wait $launcher; } 2>/dev/null
+    is "the launcher ends by ${signal%:*}" "${signal#*:}" $?
+    child=$(tail -n 1 "$room/ran")
+    is "${signal%:*} reaches the program" no "$(kill -0 "$child" 2>/dev/null && echo yes || echo no)"
+  done
+  rm -f "$room/ran"
+  SLEEP=yes bash -c 'trap - INT; exec "$0" ask host:2' "$tree/waldo" >/dev/null 2>&1 </dev/null &
+  launcher=$!
+  wait_for "$room/ran"
+  kill -s TERM "$(tail -n 1 "$room/ran")"
+  { wait $launcher; } 2>/dev/null
+  is "a program that a signal ends gives its status" 143 $?
+  echo '// changed' >>"$tree/crates/low/src/lib.rt"
+  rm -f "$room/rt"
+  SLEEP_RT=yes "$tree/waldo" ask host:2 >/dev/null 2>&1 </dev/null &
+  launcher=$!
+  wait_for "$room/rt"
+  kill -s TERM $launcher
+  { wait $launcher; } 2>/dev/null
+  is "the launcher ends by TERM in a build" 143 $?
+  is "TERM reaches the prover" no "$(kill -0 "$(cat "$room/rt")" 2>/dev/null && echo yes || echo no)"
+  is "all of these end at once" yes "$([ $((SECONDS - start)) -lt 50 ] && echo yes || echo no)"
+  place
+}
+
+check_interrupt() {
+  local code='import os, signal, subprocess, sys
+signal.signal(signal.SIGINT, signal.SIG_DFL)
+child = subprocess.Popen(sys.argv[1:], stdin=subprocess.DEVNULL, stdout=subprocess.DEVNULL, stderr=subprocess.DEVNULL)
+import time
+for turn in range(100):
+    if os.path.exists(os.environ["ROOM"] + "/ran"): break
+    time.sleep(0.1)
+child.send_signal(signal.SIGINT)
+print(child.wait())'
+  command -v python3 >/dev/null || { skip "since there is no python3: INT"; return; }
+  rm -f "$room/ran"
+  is "the launcher ends by INT" -2 "$(SLEEP=yes python3 -c "$code" "$tree/waldo" ask host:2)"
+  is "INT ends the program" no "$(kill -0 "$(tail -n 1 "$room/ran")" 2>/dev/null && echo yes || echo no)"
+}
+
+check_terminal() {
+  local code='import os, pty, sys
+child, stream = pty.fork()
+if child == 0: os.execv(sys.argv[1], sys.argv[1:])
+os.write(stream, b"rows\n\x04")
+heard = b""
+try:
+    while True:
+        piece = os.read(stream, 4096)
+        if not piece: break
+        heard += piece
+except OSError: pass
+os.waitpid(child, 0)
+sys.stdout.write(heard.decode())'
+  command -v python3 >/dev/null || { skip "since there is no python3: a terminal"; return; }
+  out=$(READ=yes python3 -c "$code" "$tree/waldo" ask host:2)
+  has "a run that waits at a terminal says so" "rows are read from the terminal" "$out"
+  has "and reads from it" "answer" "$out"
+  out=$(python3 -c "$code" "$tree/waldo" make host:2)
+  is "make waits for nothing" no "$([[ $out == *terminal* ]] && echo yes || echo no)"
+  out=$(TEXT='waldo: bad word 1\n' STATUS=2 python3 -c "$code" "$tree/waldo" ask host:9)
+  is "a refused word waits for nothing" no "$([[ $out == *terminal* ]] && echo yes || echo no)"
+}
+
+check_freshness() {
+  local copy=$room/copy
+  call ask host:2
+  is "a fresh program runs" "answer:0" "${out%$'\n'}:$status"
+  touch "$tree/crates/low/src/lib.rt"
+  PATH=${PATH#*:} call ask host:2
+  is "a later file time changes nothing" 0 "$status"
+  cp -r -- "$tree" "$copy"
+  is "a copy of a built tree runs without the toolchain" answer "$(PATH=${PATH#*:} "$copy/waldo" ask host:2 </dev/null)"
+  rm -rf -- "$copy"
+  rm -f "$room/ran"
+  echo '// changed' >>"$tree/crates/low/specs/deep/words.rt"
+  touch -d '2001-01-01' "$tree/crates/low/specs/deep/words.rt"
+  BREAK=yes call ask host:2
+  is "a failed proof gives status 1" 1 "$status"
+  is "a stale program does not run" no "$(exists "$room/ran")"
+  is "the old program stays" yes "$(exists "$tree/built/waldo_cli")"
+  has "the old program is named" "the program in built/ is of older sources, so it stays there and is not run" "$err"
+  has "the prover's words are shown" "a goal is open" "$err"
+  PATH=/usr/bin:/bin call ask host:2
+  is "no toolchain gives status 1" 1 "$status"
+  has "no toolchain is said" "command rt is not on the PATH" "$err"
+  EDIT=yes call ask host:2
+  has "sources that change during a build" "changed during the build" "$err"
+  is "and the program does not run" "1 no" "$status $(exists "$room/ran")"
+  call ask host:2
+  is "after a build the new program runs" "answer:0" "${out%$'\n'}:$status"
+  has "the build says how many crates" "proving and building its 2 crates" "$err"
+  has "and how long it takes" "can take half an hour" "$err"
+  has "the new program is in its place" "# built" "$(tail -n 1 "$tree/built/waldo_cli")"
+  rm -f "$room/proved"
+  call ask host:2
+  is "a second call builds nothing" no "$(exists "$room/proved")"
+  echo '// other' >>"$tree/built/waldo_cli"
+  call ask host:2
+  is "another program in its place is not run, but built anew" yes "$(exists "$room/proved")"
+  is "nothing is left over in built/" "sources waldo_cli" "$(ls "$tree/built" | paste -sd ' ' -)"
+  place
+}
+
+check_two_builds() {
+  rm -rf -- "$tree/built"
+  "$tree/waldo" ask host:2 >"$room/one" 2>/dev/null </dev/null &
+  "$tree/waldo" ask host:2 >"$room/two" 2>/dev/null </dev/null
+  wait
+  is "two builds at once" "answer answer" "$(cat "$room/one" "$room/two" | paste -sd ' ' -)"
+  place
+}
+
+check_read_only() {
+  local as=()
+  if [ "$(id -u)" = 0 ]; then
+    if ! command -v setpriv >/dev/null; then
+      skip "since root may write everywhere and there is no setpriv: a tree that can't be written"
+      return
+    fi
+    as=(setpriv --reuid 65534 --regid 65534 --clear-groups)
+    chmod 755 "$room"
+  fi
+  chmod -R a-w,a+rX -- "$tree"
+  is "a built tree that can't be written" answer "$(ROOM=/nonexistent "${as[@]}" "$tree/waldo" ask host:2 2>/dev/null </dev/null)"
+  chmod u+w "$tree/HANDLES"
+  echo >>"$tree/HANDLES"
+  out=$(ROOM=/nonexistent "${as[@]}" "$tree/waldo" ask host:2 2>&1 </dev/null; echo "$?")
+  has "a changed tree that can't be written" "the folder built/ can't be written" "$out"
+  is "and its status" 1 "${out##*$'\n'}"
+  chmod -R u+w -- "$tree"
+  place
+}
+
+check_memory() {
+  local overcommit=
+  { read -r overcommit </proc/sys/vm/overcommit_memory; } 2>/dev/null
+  (ulimit -v 100000 && "$tree/waldo" ask host:2 >/dev/null </dev/null)
+  is "no memory settings where memory is limited" none "$(cat "$room/settings")"
+  (ulimit -d 100000 && "$tree/waldo" ask host:2 >/dev/null </dev/null)
+  is "no memory settings where data is limited" none "$(cat "$room/settings")"
+  GLIBC_TUNABLES=mine call ask host:2
+  is "the user's memory settings stay" mine "$(cat "$room/settings")"
+  (ulimit -v 30000 && "$tree/waldo" ask host:2 >"$room/one" </dev/null)
+  is "30,000 KB are enough" answer "$(cat "$room/one")"
+}
+
+check_no_proc() {
+  if ! unshare -rm mount -t tmpfs none /proc 2>/dev/null; then
+    skip "since this user may not mount: a system without /proc"
+    return
+  fi
+  local hide='mount -t tmpfs none /proc && exec "$0" ask host:2'
+  is "without /proc" "rows" "$(printf rows | READ=yes TEXT= unshare -rm sh -c "$hide" "$tree/waldo")"
+  rm -rf -- "$tree/built"
+  is "a build without /proc" "answer" "$(unshare -rm sh -c "$hide" "$tree/waldo" 2>/dev/null </dev/null)"
+  place
+}
+
+check_places() {
+  local folder=$room/links
+  mkdir -p "$folder" && ln -s "$tree/waldo" "$folder/waldo" && ln -s waldo "$folder/again"
+  is "through two links" answer "$("$folder/again" ask host:2 </dev/null)"
+  is "by the PATH" answer "$(PATH=$folder:$PATH waldo ask host:2 </dev/null)"
+  has "through a link its name has no folder" "See 'waldo help commands'" "$(TEXT='waldo: bad word 0\n' STATUS=2 "$folder/waldo" asc 2>&1)"
+  is "from its own folder" answer "$(cd "$tree" && ./waldo ask host:2 </dev/null)"
+  is "by bash without a folder" answer "$(cd "$tree" && bash waldo ask host:2 </dev/null)"
+  is "by sh" answer "$(sh "$tree/waldo" ask host:2 </dev/null)"
+  is "without HOME" answer "$(env -u HOME "$tree/waldo" ask host:2 </dev/null)"
+  is "with a CDPATH and a name of its own folder" answer "$(cd "$room" && CDPATH=$room:/tmp "${tree##*/}/waldo" ask host:2 </dev/null)"
+  is "in POSIX mode" answer "$(POSIXLY_CORRECT=1 "$tree/waldo" ask host:2 </dev/null)"
+  cp "$tree/waldo" "$folder/alone"
+  out=$("$folder/alone" ask host:2 2>&1 </dev/null; echo "$?")
+  has "a copy that stands alone" "stands alone" "$out"
+  is "and its one line and status" "2 1" "$(wc -l <<<"$out") ${out##*$'\n'}"
+}
+
+check_no_build() {
+  local words
+  rm -rf -- "$tree/built" "$room/proved"
+  for words in help -h --help --version "help commands" "help schemas" "help queries" "help rows" "help schedules" "help messages" \
+    "help schema" "ask --help" "replay -h" "make help" "help ask"; do
+    call $words
+    is "$words has text, status 0 and no line" "0::yes" "$status:$err:$([ ${#out} -gt 40 ] && echo yes)"
+  done
+  call frobnicate host:2
+  is "an unknown command" "waldo: bad word 0:2" "${out%$'\n'}:$status"
+  call
+  is "no words" "waldo: missing command:2" "${out%$'\n'}:$status"
+  call help frobnicate
+  is "help on nothing" ":2" "$out:$status"
+  is "none of these starts a build" no "$(exists "$room/proved")"
+  place
+}
+
+# The line for a text and a status of the program, with words: `text|status|words, as the shell reads them|the line`.
+check_lines() {
+  local text wanted words
+  while IFS='|' read -r text wanted words line; do
+    [ -n "$text" ] || continue
+    eval "set -- $words"
+    TEXT=$text\\n STATUS=$wanted call "$@"
+    is "$words, text and status" "$(printf "$text\\n."):$wanted" "$out.:$status"
+    has "$words, its line" "$line" "$err"
+    is "$words, one line of at most 300 bytes" "1 yes" "$(wc -l <"$room/err") $([ ${#err} -le 300 ] && echo yes)"
+  done <"$tree/launcher/lines.txt"
+}
+
+check_install() {
+  local prefix="$room/pre fix"
+  "$tree/install.sh" "$prefix" >/dev/null
+  is "the installed command runs" answer "$("$prefix/bin/waldo" ask host:2 </dev/null)"
+  is "the man page and completions are there" "yes yes yes" "$(exists "$prefix/share/man/man1/waldo.1") $(
+    exists "$prefix/share/bash-completion/completions/waldo") $(exists "$prefix/share/zsh/site-functions/_waldo")"
+  "$tree/install.sh" "$prefix" >/dev/null
+  is "a second install" 0 $?
+  "$tree/install.sh" --remove "$prefix" >/dev/null
+  is "after the removal nothing is left" "" "$(find "$prefix" ! -type d)"
+  mkdir -p "$prefix/bin" && echo mine >"$prefix/bin/waldo"
+  "$tree/install.sh" "$prefix" >/dev/null 2>&1
+  is "a file of the user's is left alone" "1 mine" "$? $(cat "$prefix/bin/waldo")"
+  env -u HOME "$tree/install.sh" >/dev/null 2>"$room/err"
+  is "no HOME and no prefix" 1 $?
+}
+
+check_schema() {
+  local file="$room/a 'file.csv"
+  printf 'Time Of,state,Load\n1700000000,ok,1.5\n1700003600,bad,2\n1700007200,ok,2.25\n' >"$file"
+  call schema "$file"
+  is "a schema's status" 0 "$status"
+  has "a schema for a CSV file" "time_of:2@1699999200/3600,state:1" "$out"
+  has "what is lost" "always 3600 apart; nothing is lost" "$out"
+  is "its command makes rows of the file" "time_of,state,value 1700000000,1,150 1700003600,0,200 1700007200,1,225" \
+    "$(cd "$tree" && READ=yes TEXT= bash -c "$(sed -n '/^  awk/,$p' <<<"$out")" | paste -sd ' ' -)"
+  call schema "$file" nothing
+  is "a column that isn't there" 2 "$status"
+  call schema /nonexistent
+  is "a file that isn't there" 3 "$status"
+}
+
+all=(writes streams signals interrupt terminal freshness two_builds read_only memory no_proc places no_build lines install schema)
+make_tree
+for check in "${@:-${all[@]}}"; do
+  "check_$check"
+done
+[ $# -gt 0 ] || [ "$cases" -gt 150 ] || { echo "FAILED: only $cases cases"; failed=1; }
+[ $failed -eq 0 ] && echo "the launcher stands $cases attacks and cases"
+exit $failed
