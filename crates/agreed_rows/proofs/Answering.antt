@@ -1,10 +1,9 @@
 -- A query over rows that were agreed on.
-use Rattle.std.proofs.Common.{◌≡◌, ◌∙◌, refl, sym, ap, subst, ℕ, ◌+◌, ◌*◌, ◌<◌, ◌≤◌, ◌^◌, eq-eqb, List, [], length, map, take, arith}
-use Rattle.std.specs.Prelude.{Result, Ok, Err, All, Bool, true, false, if◌then◌else◌, ◌==◌, ◌&&◌, nat_lt}
-use Rattle.std.proofs.lemmas.Bool.{lt-ltb}
+use Rattle.std.proofs.Common.{◌≡◌, ◌∙◌, refl, sym, ap, subst, ℕ, ◌+◌, ◌*◌, ◌<◌, ◌^◌, eq-eqb, List, length, take, arith}
+use Rattle.std.specs.Prelude.{Result, Ok, Err, Bool, true, false, if◌then◌else◌, ◌==◌, ◌&&◌, nat_lt}
+use Rattle.std.proofs.lemmas.Bool.{and_parts, eqb-true, lt-ltb}
 use Rattle.std.proofs.lemmas.List.{length-map, length-take-le}
 use Rattle.std.proofs.lemmas.List.Elements.{All-map}
-use Rattle.onehot_column.specs.Code.{word_of}
 use Rattle.prg_chacha.specs.declared.seed.Seed.{Seed}
 use Rattle.query_plan.specs.KeyMessages.{Asked}
 use Rattle.query_plan.specs.Laws.{AreKeysOf}
@@ -31,20 +30,18 @@ use Rattle.weighted_check.specs.Check.{checked}
 use Rattle.weighted_check.specs.declared.Altered.{Altered}
 use Rattle.wire_line.specs.Messages.{IsHonest}
 use Rattle.wire_line.specs.declared.message.Message.{Message}
-use Rattle.agreed_rows.specs.Agreed.{Entries, IsAgreed, Sound}
-use Rattle.agreed_rows.specs.Answers.{Opens, judged, plain_total, rows_in, setup_over}
+use Rattle.agreed_rows.specs.Agreed.{Entries, IsAgreed, Sound, first_rows}
+use Rattle.agreed_rows.specs.Answers.{Answers, IsPlainAnswer, Opens, answered_by, judged, plain_total, rows_in, setup_over}
+use Rattle.agreed_rows.specs.declared.query.AnswerFault.{AnswerFault}
+use Rattle.agreed_rows.specs.declared.query.Answered.{Answered}
 use Rattle.agreed_rows.specs.Servers.{KeepsFirst}
 use Rattle.agreed_rows.specs.Shelves.{AreRowsOf}
 use Rattle.agreed_rows.proofs.OverRows.{are_rows, over_same, same_rows}
 
--- what an agreement is seen as
-abbrev pub seen_as : Widths → List (Row × Seed) → ℕ → Entries
-seen_as w order n = record { widths = w; all = take n order }
-
 pub agreed_long : (w : Widths) (order : List (Row × Seed)) (n : ℕ) (h0 h1 h2 : Held) → IsAgreed w order n h0 h1 h2 → length (take n order) ≡ n
 agreed_long w order n h0 h1 h2 is = length-take-le n order is.zero.few
 
-pub agreed_sound : (w : Widths) (order : List (Row × Seed)) (n : ℕ) (h0 h1 h2 : Held) → IsAgreed w order n h0 h1 h2 → Sound (seen_as w order n)
+pub agreed_sound : (w : Widths) (order : List (Row × Seed)) (n : ℕ) (h0 h1 h2 : Held) → IsAgreed w order n h0 h1 h2 → Sound (first_rows w order n)
 agreed_sound w order n h0 h1 h2 is = record { few = omega (arith, is.few, agreed_long w order n h0 h1 h2 is); rows = is.zero.rows }
 
 -- the shelves of an agreement have its rows
@@ -54,6 +51,20 @@ agreed_rows w k order n h keys same keeps = subst (λ (v : Widths). AreRowsOf v 
 -- a pair that keeps the relation is accepted
 accepted : (total weighted key answer : ℕ) → total ≡ answer → weighted ≡ times key answer → answer < 2 ^ 64 → checked total weighted key ≡ Ok answer
 accepted total weighted key answer sum product small = rw (sum, product, eq-eqb (times key answer) (times key answer) refl, lt-ltb answer (2 ^ 64) small) refl
+
+-- what is accepted is a total, and the key times it
+accepted_by : (key total weighted : ℕ) (b : Bool) (answer : ℕ) → (weighted == times key total && nat_lt total (2 ^ 64)) ≡ b
+    → ◌≡◌ {A = Result ℕ Altered} (if b then Ok total else Err (record { total = total; weighted = weighted })) (Ok answer) → (total ≡ answer) × (weighted ≡ times key total)
+accepted_by key total weighted true answer test e =
+    (cc, eqb-true weighted (times key total) (and_parts (weighted == times key total) (nat_lt total (2 ^ 64)) test).0)
+accepted_by key total weighted false answer test e = absurd cc
+
+pub accepted_as : (query : Query) (seed : Seed) (pair : OpenedPair) (answer : ℕ) → judged query seed pair ≡ Ok answer
+    → pair ≡ record { total = answer; weighted = times (key_from (weights_of seed 1) query.count) answer }
+accepted_as query seed pair answer e =
+    let key = key_from (weights_of seed 1) query.count in
+    let is = accepted_by (key_from (weights_of seed 1) query.count) pair.total pair.weighted (pair.weighted == times (key_from (weights_of seed 1) query.count) pair.total && nat_lt pair.total (2 ^ 64)) answer refl e in
+    ap (λ (weighted : ℕ). record { total = pair.total; weighted = weighted }) is.1 ∙ ap (λ (total : ℕ). record { total = total; weighted = times (key_from (weights_of seed 1) query.count) total }) is.0
 
 -- what is refused is the pair itself
 refused_by : (b : Bool) (query : Query) (seed : Seed) (pair : OpenedPair) (fault : Altered) → (if b then Ok pair.total else Err (record { total = pair.total; weighted = pair.weighted })) ≡ Err fault
@@ -74,7 +85,7 @@ pub record Asking (w : Widths) (order : List (Row × Seed)) (n : ℕ) (h0 h1 h2 
 
 module _ (w : Widths) (order : List (Row × Seed)) (n : ℕ) (h0 h1 h2 : Held) (query : Query) (seed : Seed) (keys : Asked) (asking : Asking w order n h0 h1 h2 query seed keys) where
   abbrev rows : Entries
-  rows = seen_as w order n
+  rows = first_rows w order n
 
   there : HasColumns (record { rows = n; widths = w; shape = shaped query })
   there = subst (λ (k : Asked). HasColumns (record { rows = n; widths = k.widths; shape = shaped k.query })) asking.made asking.columns
@@ -101,11 +112,8 @@ module _ (w : Widths) (order : List (Row × Seed)) (n : ℕ) (h0 h1 h2 : Held) (
         weighted = weighted ∙ ap (λ (k : Asked). opened_of (setup_for k.query k.widths k.seed n (by_server h0.pieces h1.pieces h2.pieces)) ms 1) asking.made;
       }
 
-  pub asked_judged : (pair : OpenedPair) (key : ℕ) (r : Result ℕ Altered) → key ≡ key_from (weights_of keys.seed 1) keys.query.count → r ≡ checked pair.total pair.weighted key → judged query seed pair ≡ r
-  asked_judged pair key r is says = sym (says ∙ ap (checked pair.total pair.weighted) (is ∙ ap (λ (k : Asked). key_from (weights_of k.seed 1) k.query.count) asking.made))
-
-  -- over messages that were not altered the check accepts the plain answer
-  pub asked_plainly : (ms : List Message) (pair : OpenedPair) → Opens rows query seed ms pair → IsHonest ms → judged query seed pair ≡ Ok (plain_total rows query)
+  -- over honest messages the check accepts the plain answer
+  asked_plainly : (ms : List Message) (pair : OpenedPair) → Opens rows query seed ms pair → IsHonest ms → judged query seed pair ≡ Ok (plain_total rows query)
   asked_plainly ms pair opens honest =
       let is = asking.agreed in
       let entries = take n order in
@@ -121,8 +129,23 @@ module _ (w : Widths) (order : List (Row × Seed)) (n : ℕ) (h0 h1 h2 : Held) (
       (omega (arith, length-map entries (λ (entry : Row × Seed). entry.0), agreed_long w order n h0 h1 h2 is, is.few)) in
       accepted pair.total pair.weighted (key_from (weights_of seed 1) query.count) (plain_total rows query) (opens.total ∙ opened.0) (opens.weighted ∙ opened.1) (omega (arith, small.1))
 
-  pub asked_right : (ms : List Message) (pair : OpenedPair) (total : ℕ) → Opens rows query seed ms pair → IsHonest ms → judged query seed pair ≡ Ok total → total ≡ plain_total rows query
-  asked_right ms pair total opens honest is = let plainly : judged query seed pair ≡ Ok (plain_total rows query) = asked_plainly ms pair opens honest in cc
+  -- the answer is that of the check, which is plain over honest messages
+  judged_by : (pair : OpenedPair) (key n : ℕ) (r : Result Answered AnswerFault) → key ≡ key_from (weights_of keys.seed 1) keys.query.count → r ≡ answered_by n (checked pair.total pair.weighted key)
+      → r ≡ answered_by n (judged query seed pair)
+  judged_by pair key n r is says =
+      says ∙ ap (λ (k : ℕ). answered_by n (checked pair.total pair.weighted k)) (is ∙ ap (λ (k : Asked). key_from (weights_of k.seed 1) k.query.count) asking.made)
 
-  pub asked_kept : (ms : List Message) (pair : OpenedPair) (fault : Altered) → Opens rows query seed ms pair → IsHonest ms → judged query seed pair ≡ Err fault → ⊥
-  asked_kept ms pair fault opens honest is = let plainly : judged query seed pair ≡ Ok (plain_total rows query) = asked_plainly ms pair opens honest in absurd cc
+  pub asked_answers : (ms : List Message) (pair : OpenedPair) (key m : ℕ) (r : Result Answered AnswerFault) → Opens rows query seed ms pair
+      → key ≡ key_from (weights_of keys.seed 1) keys.query.count → m ≡ n → r ≡ answered_by m (checked pair.total pair.weighted key) → Answers rows query seed ms pair r
+  asked_answers ms pair key m r opens is count says =
+      subst (λ (x : Result Answered AnswerFault). Answers rows query seed ms pair x) (sym (judged_by pair key m r is says)) (by (judged query seed pair) refl)
+    where
+      by : (o : Result ℕ Altered) → judged query seed pair ≡ o → Answers rows query seed ms pair (answered_by m o)
+      by (Ok total) e = (opens, e, count ∙ long)
+      by (Err fault) e = (opens, e, refused_as query seed pair fault e)
+
+  pub asked_plain : (ms : List Message) (pair : OpenedPair) (key m : ℕ) (r : Result Answered AnswerFault) → Opens rows query seed ms pair
+      → key ≡ key_from (weights_of keys.seed 1) keys.query.count → r ≡ answered_by m (checked pair.total pair.weighted key) → IsHonest ms → IsPlainAnswer rows query r
+  asked_plain ms pair key m r opens is says honest =
+      subst (λ (x : Result Answered AnswerFault). IsPlainAnswer rows query x)
+      (sym (judged_by pair key m r is says ∙ ap (answered_by m) (asked_plainly ms pair opens honest))) refl

@@ -1,5 +1,5 @@
 -- Pieces and rows of the order: they stay as the order grows, as a log takes a piece, and in a snapshot.
-use Rattle.std.proofs.Common.{◌≡◌, ◌∙◌, refl, sym, ap, subst, ℕ, zero, suc, ◌<◌, ◌≤◌, ⊎_elim, Bool, true, false, cond, if◌then◌else◌, Option, Some, None, List, [], ◌∷◌, ◌++◌, length, get_or, set, take, arith, slice_get}
+use Rattle.std.proofs.Common.{◌≡◌, ◌∙◌, refl, sym, ap, subst, ℕ, zero, suc, ◌<◌, ◌≤◌, ⊎_elim, Bool, true, false, cond, Option, Some, None, List, ◌++◌, length, get_or, set, take, arith}
 use Rattle.std.specs.Prelude.{is_some, All, min}
 use Rattle.std.proofs.lemmas.Bool.Decides.{nat_tests}
 use Rattle.std.proofs.lemmas.List.{length-append, length-take, take-append-le, take-take}
@@ -26,10 +26,6 @@ use Rattle.agreed_rows.specs.Agreed.{IsAgreed}
 use Rattle.agreed_rows.specs.Shelves.{AreCuts}
 use Rattle.agreed_rows.specs.Servers.{IsFixOf, IsServer, IsShareAt, KeepsFirst}
 use Rattle.agreed_rows.proofs.Elements.{get_or-set, prefix_get, all_below}
-
--- a place at the journal's end, unless it is there
-abbrev with_place : ℕ → List ℕ → List ℕ
-with_place place journal = if has place journal then journal else journal ++ place ∷ []
 
 -- ---- the order grows
 
@@ -71,13 +67,6 @@ in_journal log place legal = by (is_some (piece_at log.slots place)) refl
     by : (b : Bool) → is_some (piece_at log.slots place) ≡ b → has place log.journal ≡ is_some (piece_at log.slots place)
     by true e = let one : times place log.journal ≡ 1 = legal.once place ∙ ap (λ (c : Bool). cond c 1 0) e in has_from place log.journal (omega arith) ∙ sym e
     by false e = has_from_none place log.journal (legal.once place ∙ ap (λ (c : Bool). cond c 1 0) e) ∙ sym e
-
-pub journal_placed : (log : Log) (place : ℕ) (piece : Piece) → IsLog log → (log_placed log place piece).journal ≡ with_place place log.journal
-journal_placed log place piece legal = by (is_some (piece_at log.slots place)) refl
-  where
-    by : (b : Bool) → is_some (piece_at log.slots place) ≡ b → (log_placed log place piece).journal ≡ with_place place log.journal
-    by true e = let there : has place log.journal ≡ true = in_journal log place legal ∙ e in rw (e, there) refl
-    by false e = let free : has place log.journal ≡ false = in_journal log place legal ∙ e in rw (e, free) refl
 
 pub server_placed : (k : ℕ) (w : Widths) (most : ℕ) (order : List (Row × Seed)) (log : Log) (place : ℕ) (piece : Piece)
     → IsServer k w most order log → IsShareAt w k order place piece → IsServer k w most order (log_placed log place piece)

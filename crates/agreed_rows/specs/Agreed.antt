@@ -1,5 +1,5 @@
 -- Rows that were agreed on.
-use Rattle.std.specs.Prelude.{◌≡◌, ℕ, ◌≤◌, List, All, length}
+use Rattle.std.specs.Prelude.{ℕ, ◌≤◌, List, All, length, take}
 use Rattle.prg_chacha.specs.declared.seed.Seed.{Seed}
 use Rattle.scan_chunks.specs.Shelf.{Held}
 use Rattle.table_schema.specs.Widths.{Holds}
@@ -11,6 +11,10 @@ use Rattle.agreed_rows.specs.Servers.{KeepsFirst}
 pub record Entries : Type 0 where
   pub widths : Widths
   pub all : List (Row × Seed)
+
+-- the first n rows of an order
+abbrev pub first_rows : Widths → List (Row × Seed) → ℕ → Entries
+first_rows w order n = record { widths = w; all = take n order }
 
 -- there are at most 65,536 rows, which the widths hold
 pub record Sound (e : Entries) : Type 0 where

@@ -42,6 +42,11 @@ plain_total e query = word_of (plain query (rows_in e.all))
 abbrev pub judged : Query → Seed → OpenedPair → Result ℕ Altered
 judged query seed pair = checked pair.total pair.weighted (key_from (weights_of seed 1) query.count)
 
+-- the answer over n rows, by what the check says
+abbrev pub answered_by : ℕ → Result ℕ Altered → Result Answered AnswerFault
+answered_by n (Ok total) = Ok (record { rows = n; total = total })
+answered_by n (Err pair) = Err (faults.Altered pair.total pair.weighted)
+
 -- the messages that were carried: those of the whole query, which open a pair that the check accepts or refuses; for want of memory
 -- the first of them
 abbrev pub Answers : Entries → Query → Seed → List Message → OpenedPair → Result Answered AnswerFault → Type 0

@@ -1,5 +1,5 @@
 -- What servers hold of the rows of an order.
-use Rattle.std.specs.Prelude.{◌≡◌, ℕ, ◌<◌, ◌≤◌, Some, List, All, length, take, slice_get}
+use Rattle.std.specs.Prelude.{◌≡◌, ℕ, ◌≤◌, Some, List, All, length, take, slice_get}
 use Rattle.onehot_column.specs.Piece.{HasWidths, IsPiece}
 use Rattle.onehot_column.specs.declared.piece.Piece.{Piece}
 use Rattle.prefix_log.specs.Journal.{prefix}

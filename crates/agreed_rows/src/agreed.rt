@@ -1,7 +1,7 @@
 //! Rows that were agreed on.
-ghost use Rattle.std.specs.Prelude.{◌≡◌, ◌≤◌, length, min, take};
+ghost use Rattle.std.specs.Prelude.{◌≡◌, ◌≤◌, length, min};
 ghost use Rattle.agreed_rows.specs.Servers.{KeepsFirst};
-ghost use Rattle.agreed_rows.specs.Agreed.{Sound};
+ghost use Rattle.agreed_rows.specs.Agreed.{Sound, first_rows};
 
 use crate::agreement::Agreement;
 use prefix_log::Snapshot;
@@ -23,12 +23,11 @@ pub struct Agreed {
 }
 
 impl Model for Agreed {
-    ghost use Rattle.std.specs.Prelude.{take};
-    ghost use Rattle.agreed_rows.specs.Agreed.{Entries, IsAgreed};
+    ghost use Rattle.agreed_rows.specs.Agreed.{Entries, IsAgreed, first_rows};
 
     ghost Value = { Entries };
 
-    ghost view = { λ a. record { widths = a.widths; all = take (⟦<Snapshot as Shelf>⟧.held a.rows.zero).rows a.sight.value.order } };
+    ghost view = { λ a. first_rows a.widths a.sight.value.order (⟦<Snapshot as Shelf>⟧.held a.rows.zero).rows };
 
     ghost invariant = { λ a. let held = ⟦<Snapshot as Shelf>⟧.held in
         IsAgreed a.widths a.sight.value.order (held a.rows.zero).rows (held a.rows.zero) (held a.rows.one) (held a.rows.two) };
@@ -49,7 +48,7 @@ impl Agreed {
         requires one { let h = ⟦<Snapshot as Shelf>⟧.held one in KeepsFirst widths.now 1 sight.now.order h.rows h }
         requires two { let h = ⟦<Snapshot as Shelf>⟧.held two in KeepsFirst widths.now 2 sight.now.order h.rows h }
         ensures { let held = ⟦<Snapshot as Shelf>⟧.held in
-            result ≡ record { widths = widths.now; all = take (min (min (held zero).rows (held one).rows) (held two).rows) sight.now.order } }
+            result ≡ first_rows widths.now sight.now.order (min (min (held zero).rows (held one).rows) (held two).rows) }
     {
         Agreed {
             widths: *widths,

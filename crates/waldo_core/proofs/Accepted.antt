@@ -1,34 +1,20 @@
--- Where nothing was altered no reply says so.
-use Rattle.std.proofs.Common.{◌≡◌, ◌∙◌, refl, sym, ap, subst, ℕ, ◌<◌, ◌≤◌, ◌^◌, Bool, true, false, eq-eqb, Option, Some, None, slice_get, List, All, length, map, take, arith}
-use Rattle.std.specs.Prelude.{Result, Ok, Err, IfOk, is_some, nat_lt, ◌||◌, if◌then◌else◌}
-use Rattle.std.proofs.lemmas.Bool.{lt-ltb}
-use Rattle.std.proofs.lemmas.List.{length-map, length-take}
-use Rattle.std.proofs.lemmas.List.Elements.{All-map, All-take}
-use Rattle.onehot_column.specs.Code.{word_of}
-use Rattle.prg_chacha.specs.declared.seed.Seed.{Seed}
-use Rattle.query_plan.specs.Seeds.{weights_of}
-use Rattle.query_plan.specs.Views.{key_from}
-use Rattle.query_plan.specs.declared.query.Query.{Query}
-use Rattle.ring128.specs.Ring.{times}
+-- The reply to an event without messages never says that something was altered.
+use Rattle.std.proofs.Common.{◌≡◌, ◌∙◌, refl, sym, ap, subst, ℕ, Bool, true, false, Option, Some, None, slice_get}
+use Rattle.std.specs.Prelude.{Result, Ok, Err, IfOk, is_some, nat_lt, length, ◌||◌, if◌then◌else◌}
 use Rattle.ring128.specs.declared.memory.Memory.{Memory}
 use Rattle.server_rounds.specs.declared.opened.OpenedPair.{OpenedPair}
-use Rattle.table_schema.specs.Widths.{Holds}
-use Rattle.table_schema.specs.declared.rows.Row.{Row}
-use Rattle.table_schema.specs.declared.widths.Widths.{Widths}
-use Rattle.transcript.specs.Plain.{plain}
-use Rattle.transcript.proofs.Small.{plain_is_small}
-use Rattle.weighted_check.specs.Check.{checked}
-use Rattle.waldo_core.specs.Answers.{IsQuiet, plain_pair}
+use Rattle.waldo_core.specs.Answers.{IsPlain, IsQuiet}
 use Rattle.waldo_core.specs.Core.{Actor, Core, Fixes, Open, is_pending, prefix}
 use Rattle.waldo_core.specs.Core.Fixes.{Unfixed, First, Second, Agreed}
 use Rattle.waldo_core.specs.Machines.{Seen}
 use Rattle.waldo_core.specs.Outcomes.{Quietly, named}
-use Rattle.waldo_core.specs.Step.{actor_of, acts, answered, drawn, fix_step, is_altered, is_server, place_step, placed, reply_of}
+use Rattle.waldo_core.specs.Step.{actor_of, acts, drawn, fix_step, is_altered, is_server, place_step, placed}
 use Rattle.waldo_core.specs.declared.events.Event.{Event}
 use Rattle.waldo_core.specs.declared.events.Event.TheVariants as events
 use Rattle.waldo_core.specs.declared.events.Reply.{Reply}
-
--- ---- events without messages
+use Rattle.waldo_core.specs.declared.events.StepFault.{StepFault}
+use Rattle.waldo_core.specs.declared.events.StepFault.TheVariants as step_faults
+use Rattle.waldo_core.proofs.Acts.{nothing}
 
 abbrev altered_in : Option (Core × Reply) → Bool
 altered_in None = false
@@ -72,26 +58,23 @@ by_result old event new (Ok (Some reply)) quiet done =
 by_result old event new (Ok None) quiet done = tt
 by_result old event new (Err memory) quiet done = tt
 
-pub quiet_accepted : (old : Seen) (given event : Event) (new : Seen) (result : Result (Option Reply) Memory) → given ≡ event → IsQuiet event → Quietly old event new result
-    → IfOk (named given result) (λ (reply : Reply). is_altered reply ≡ false)
-quiet_accepted old given event new result same quiet done =
-    subst (λ (e : Event). IfOk (named e result) (λ (reply : Reply). is_altered reply ≡ false)) (sym same) (by_result old event new result quiet done)
+accepted_of : (result : Result Reply StepFault) (P : Type 0) → P → IfOk result (λ (reply : Reply). is_altered reply ≡ false) → IfOk result (λ (reply : Reply). P × (is_altered reply ≡ false))
+accepted_of (Ok reply) P p is = (p, is)
+accepted_of (Err fault) P p is = tt
 
--- ---- an answer
+-- by what was given: nothing was opened, which is plain, and the reply is not that it was altered
+pub quiet_plain : (old : Seen) (given event : Event) (new : Seen) (result : Result (Option Reply) Memory) → given ≡ event → IsQuiet event → IsPlain old.core event nothing → Quietly old event new result
+    → IfOk (named given result) (λ (reply : Reply). IsPlain old.core given nothing × (is_altered reply ≡ false))
+quiet_plain old given event new result same quiet plain done =
+    subst (λ (e : Event). IfOk (named e result) (λ (reply : Reply). IsPlain old.core e nothing × (is_altered reply ≡ false))) (sym same)
+    (accepted_of (named event result) (IsPlain old.core event nothing) plain (by_result old event new result quiet done))
 
--- a pair that keeps the relation is accepted
-accepted : (total weighted key answer : ℕ) → total ≡ answer → weighted ≡ times key answer → answer < 2 ^ 64 → checked total weighted key ≡ Ok answer
-accepted total weighted key answer sum product small = rw (sum, product, eq-eqb (times key answer) (times key answer) refl, lt-ltb answer (2 ^ 64) small) refl
+pub not_altered : (result : Result Reply StepFault) (P : Type 0) → IfOk result (λ (reply : Reply). P × (is_altered reply ≡ false)) → IfOk result (λ (reply : Reply). is_altered reply ≡ false)
+not_altered (Ok reply) P plain = plain.1
+not_altered (Err fault) P plain = tt
 
-pub plain_accepted : (w : Widths) (order : List (Row × Seed)) (n : ℕ) (query : Query) (seed : Seed) (pair : OpenedPair) → All (λ (entry : Row × Seed). Holds w entry.0) order → n ≤ 65536
-    → pair ≡ plain_pair order n query seed → is_altered (answered n query seed pair) ≡ false
-plain_accepted w order n query seed pair held few is =
-    let entries = take n order in
-    let rows = map (λ (entry : Row × Seed). entry.0) (take n order) in
-    let total = word_of (plain query (map (λ (entry : Row × Seed). entry.0) (take n order))) in
-    let key = key_from (weights_of seed 1) query.count in
-    let small = plain_is_small w query (map (λ (entry : Row × Seed). entry.0) (take n order))
-    (All-map (Holds w) (λ (entry : Row × Seed). entry.0) (take n order) (All-take (λ (entry : Row × Seed). Holds w entry.0) n order held))
-    (omega (arith, length-map (take n order) (λ (entry : Row × Seed). entry.0), length-take n order)) in
-    ap (λ (p : OpenedPair). is_altered (answered n query seed p)) is
-    ∙ ap (λ (r : Result ℕ _). is_altered (reply_of n r)) (accepted total (times key total) key total refl refl (omega (arith, small.1)))
+-- what is not allowed had no reply
+pub refused_none : (event given : Event) (result : Result (Option Reply) Memory) → named event result ≡ Err (step_faults.NotAllowed given) → result ≡ Ok None
+refused_none event given (Ok (Some reply)) e = absurd cc
+refused_none event given (Ok None) e = refl
+refused_none event given (Err memory) e = absurd cc

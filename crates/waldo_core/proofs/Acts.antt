@@ -7,9 +7,8 @@ use Rattle.prefix_log.specs.declared.snapshot.Snapshot.{Snapshot}
 use Rattle.scan_chunks.specs.Shelf.{Held}
 use Rattle.server_rounds.specs.declared.opened.OpenedPair.{OpenedPair}
 use Rattle.ring128.specs.declared.memory.Memory.{Memory}
-use Rattle.waldo_core.specs.Answers.{IsPlain}
-use Rattle.waldo_core.specs.Core.{Core}
-use Rattle.waldo_core.specs.Held.{HasNone, IsActorOf, IsMachine, IsServer, Table, core_of, log_of, seen_actor, seen_machine}
+use Rattle.agreed_rows.specs.Servers.{IsServer}
+use Rattle.waldo_core.specs.Held.{HasNone, IsActorOf, IsMachine, Table, core_of, log_of, seen_actor, seen_machine}
 use Rattle.waldo_core.specs.Legal.{IsActor}
 use Rattle.waldo_core.specs.Machines.{HasNoCase, Seen, Stepped}
 use Rattle.waldo_core.specs.Outcomes.{Quietly, named}
@@ -28,9 +27,6 @@ nothing = record { total = 0; weighted = 0 }
 -- an event without messages, by what was given
 pub quiet_stepped : (old : Seen) (given event : Event) (new : Seen) (result : Result (Option Reply) Memory) → given ≡ event → Quietly old event new result → Stepped old given [] nothing new (named given result)
 quiet_stepped old given event new result same done = subst (λ (e : Event). Stepped old e [] nothing new (named e result)) (sym same) (done nothing)
-
-pub quiet_plain : (core : Core) (given event : Event) → given ≡ event → IsPlain core event nothing → IsPlain core given nothing
-quiet_plain core given event same plain = subst (λ (e : Event). IsPlain core e nothing) (sym same) plain
 
 -- an actor as the core has it
 pub seen_there : (held : Snapshot → Held) (t : Table) (i : ℕ) (a : ActorState) → slice_get t.actors i ≡ Some a → slice_get (core_of held t).actors i ≡ Some (seen_actor held a)

@@ -13,7 +13,8 @@ use Rattle.scan_chunks.specs.Shelf.{Held}
 use Rattle.table_schema.specs.Widths.{Fits, Holds, column_bits}
 use Rattle.table_schema.specs.declared.rows.Row.{Row}
 use Rattle.table_schema.specs.declared.widths.Widths.{Widths}
-use Rattle.waldo_core.specs.Held.{IsActorOf, IsMachine, IsServer, Table, fresh_state, log_of}
+use Rattle.agreed_rows.specs.Servers.{IsServer}
+use Rattle.waldo_core.specs.Held.{IsActorOf, IsMachine, Table, fresh_state, log_of}
 use Rattle.waldo_core.specs.declared.actor.ActorState.{ActorState}
 use Rattle.waldo_core.specs.declared.logs.Logs.{Logs}
 use Rattle.waldo_core.proofs.Stays.{legal_stays}

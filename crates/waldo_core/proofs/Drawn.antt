@@ -14,9 +14,11 @@ use Rattle.server_rounds.specs.declared.opened.OpenedPair.{OpenedPair}
 use Rattle.table_schema.specs.Widths.{Holds}
 use Rattle.table_schema.specs.declared.rows.Row.{Row}
 use Rattle.table_schema.specs.declared.widths.Widths.{Widths}
+use Rattle.agreed_rows.specs.Servers.{IsShareAt}
+use Rattle.agreed_rows.proofs.Shares.{server_grows}
 use Rattle.waldo_core.specs.Core.{Actor, Core, is_pending}
 use Rattle.waldo_core.specs.Core.Fixes.{Unfixed}
-use Rattle.waldo_core.specs.Held.{HoldsShares, IsActorOf, IsMachine, IsShareAt, Table, core_of, log_of, piece_for, seen_actor, seen_machine}
+use Rattle.waldo_core.specs.Held.{HoldsShares, IsActorOf, IsMachine, Table, core_of, log_of, piece_for, seen_actor, seen_machine}
 use Rattle.waldo_core.specs.Machines.{Seen, Stepped}
 use Rattle.waldo_core.specs.Outcomes.{Quietly}
 use Rattle.waldo_core.specs.Step.{acts, drawn, step}
@@ -27,7 +29,7 @@ use Rattle.waldo_core.specs.declared.events.Reply.TheVariants as replies
 use Rattle.waldo_core.specs.declared.snapshots.Snapshots.TheVariants as found
 use Rattle.waldo_core.proofs.Acts.{seen_set, seen_there}
 use Rattle.waldo_core.proofs.Elements.{slice_get-set, slice_get_last}
-use Rattle.waldo_core.proofs.Shares.{actor_grows, server_grows}
+use Rattle.waldo_core.proofs.Shares.{actor_grows, begins}
 use Rattle.waldo_core.proofs.Stays.{legal_stays}
 
 -- an actor that may draw draws
@@ -55,19 +57,19 @@ pub record HasPieces (w : Widths) (row : Row) (seed : Seed) (draw : OpenDraw) : 
   pub wide2 : HasWidths w two
 
 -- they are shares of the new entry
-new_shares : (w : Widths) (order : List (Row × Seed)) (row : Row) (seed : Seed) (draw : OpenDraw) → draw.place ≡ length order → HasPieces w row seed draw → HoldsShares w (order ++ (row, seed) ∷ []) draw
-new_shares w order row seed draw place has k piece lt e = by k lt e
+new_shares : (w : Widths) (order : List (Row × Seed)) (row : Row) (seed : Seed) (draw : OpenDraw) → draw.place ≡ length order → Holds w row → HasPieces w row seed draw → HoldsShares w (order ++ (row, seed) ∷ []) draw
+new_shares w order row seed draw place holds has k piece lt e = by k lt e
   where
     there : slice_get (order ++ (row, seed) ∷ []) draw.place ≡ Some (row, seed)
     there = ap (slice_get (order ++ (row, seed) ∷ [])) place ∙ slice_get_last order (row, seed)
 
     by : (n : ℕ) → n < 3 → piece_for n draw ≡ Some piece → IsShareAt w n (order ++ (row, seed) ∷ []) draw.place piece
     by zero b is = let same : has.zero ≡ piece = same_Some has.zero piece (sym has.at0 ∙ is) in
-        record { entry = (row, seed); there = there; share = subst (λ (p : Piece). IsPiece w row seed 0 p) same has.piece0; wide = subst (λ (p : Piece). HasWidths w p) same has.wide0 }
+        record { entry = (row, seed); there = there; held = holds; share = subst (λ (p : Piece). IsPiece w row seed 0 p) same has.piece0; wide = subst (λ (p : Piece). HasWidths w p) same has.wide0 }
     by (suc zero) b is = let same : has.one ≡ piece = same_Some has.one piece (sym has.at1 ∙ is) in
-        record { entry = (row, seed); there = there; share = subst (λ (p : Piece). IsPiece w row seed 1 p) same has.piece1; wide = subst (λ (p : Piece). HasWidths w p) same has.wide1 }
+        record { entry = (row, seed); there = there; held = holds; share = subst (λ (p : Piece). IsPiece w row seed 1 p) same has.piece1; wide = subst (λ (p : Piece). HasWidths w p) same has.wide1 }
     by (suc (suc zero)) b is = let same : has.two ≡ piece = same_Some has.two piece (sym has.at2 ∙ is) in
-        record { entry = (row, seed); there = there; share = subst (λ (p : Piece). IsPiece w row seed 2 p) same has.piece2; wide = subst (λ (p : Piece). HasWidths w p) same has.wide2 }
+        record { entry = (row, seed); there = there; held = holds; share = subst (λ (p : Piece). IsPiece w row seed 2 p) same has.piece2; wide = subst (λ (p : Piece). HasWidths w p) same has.wide2 }
     by (suc (suc (suc n))) b is = absurd (omega arith)
 
 module _ (held : Snapshot → Held) (space : ℕ) (t : Table) (i : ℕ) (row : Row) (seed : Seed) (a : ActorState) (here : slice_get t.actors i ≡ Some a)
@@ -117,9 +119,9 @@ module _ (held : Snapshot → Held) (space : ℕ) (t : Table) (i : ℕ) (row : R
       some = ok.some;
       most = ok.most;
       rows = All-push (λ (entry : Row × Seed). Holds t.widths entry.0) t.order (row, seed) ok.rows holds;
-      servers = λ k lt. server_grows k t.widths t.capacity t.order (row, seed) (log_of t.logs k) (ok.servers k lt);
+      servers = λ k lt. server_grows k t.widths t.capacity t.order (t.order ++ (row, seed) ∷ []) (log_of t.logs k) (begins t.order (row, seed)) (ok.servers k lt);
       actors = λ j x is. ⊎_elim (λ (same : x ≡ b). subst (λ (y : ActorState). IsActorOf held t.widths (t.order ++ (row, seed) ∷ []) y) (sym same) (record {
-        draw = λ d e. subst (λ (y : OpenDraw). HoldsShares t.widths (t.order ++ (row, seed) ∷ []) y) (same_Some draw d e) (new_shares t.widths t.order row seed draw place has);
+        draw = λ d e. subst (λ (y : OpenDraw). HoldsShares t.widths (t.order ++ (row, seed) ∷ []) y) (same_Some draw d e) (new_shares t.widths t.order row seed draw place holds has);
         first = tt;
       }))
           (λ (old : slice_get t.actors j ≡ Some x). actor_grows held t.widths t.order (row, seed) x (ok.actors j x old)) (slice_get-set t.actors i b j x is);

@@ -1,13 +1,7 @@
 -- Elements of lists by their places.
-use Rattle.std.proofs.Common.{◌≡◌, ◌∙◌, refl, sym, ap, ℕ, zero, suc, ◌⊎◌, inl, inr, ⊎_elim, Some, slice_get, List, [], ◌∷◌, ◌++◌, All, length, get_or, set, subst}
+use Rattle.std.proofs.Common.{◌≡◌, ◌∙◌, refl, sym, ap, ℕ, zero, suc, ◌⊎◌, inl, inr, Some, slice_get, List, [], ◌∷◌, ◌++◌, All, length, get_or, set, subst}
 use Rattle.std.proofs.lemmas.List.{set-get_or}
 use Rattle.std.proofs.lemmas.Option.{get_or_from_slice_get, slice_get_within}
-
--- what was there is there in a longer list
-pub slice_get-append : {A : Type 0} (xs ys : List A) (i : ℕ) (x : A) → slice_get xs i ≡ Some x → slice_get (xs ++ ys) i ≡ Some x
-slice_get-append [] ys i x e = absurd cc
-slice_get-append (y ∷ xs) ys zero x e = e
-slice_get-append (y ∷ xs) ys (suc i) x e = slice_get-append xs ys i x e
 
 -- the last one
 pub slice_get_last : {A : Type 0} (xs : List A) (x : A) → slice_get (xs ++ x ∷ []) (length xs) ≡ Some x
@@ -21,14 +15,6 @@ slice_get-set (z ∷ xs) zero y zero x e = let same : x ≡ y = cc in inl same
 slice_get-set (z ∷ xs) zero y (suc j) x e = inr e
 slice_get-set (z ∷ xs) (suc i) y zero x e = inr e
 slice_get-set (z ∷ xs) (suc i) y (suc j) x e = slice_get-set xs i y j x e
-
-pub get_or-set : {A : Type 0} (xs : List A) (i : ℕ) (y : A) (j : ℕ) (d v : A) → get_or (set xs i y) j d ≡ v → ((j ≡ i) × (y ≡ v)) ⊎ (get_or xs j d ≡ v)
-get_or-set [] i y j d v e = inr e
-get_or-set (z ∷ xs) zero y zero d v e = inl (refl, e)
-get_or-set (z ∷ xs) zero y (suc j) d v e = inr e
-get_or-set (z ∷ xs) (suc i) y zero d v e = inr e
-get_or-set (z ∷ xs) (suc i) y (suc j) d v e =
-    ⊎_elim (λ (p : (j ≡ i) × (y ≡ v)). inl (ap suc p.0, p.1)) (λ (old : get_or xs j d ≡ v). inr old) (get_or-set xs i y j d v e)
 
 -- to write what is there changes nothing
 pub set_there : {A : Type 0} (xs : List A) (i : ℕ) (x : A) → slice_get xs i ≡ Some x → set xs i x ≡ xs

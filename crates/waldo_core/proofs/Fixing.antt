@@ -1,7 +1,8 @@
 -- A fix.
-use Rattle.std.proofs.Common.{◌≡◌, ◌∙◌, refl, sym, ap, subst, ℕ, ◌<◌, ◌≤◌, Some, slice_get, List, min, set, arith}
+use Rattle.std.proofs.Common.{◌≡◌, ◌∙◌, refl, sym, ap, subst, ℕ, ◌<◌, ◌≤◌, Some, slice_get, List, length, min, set, arith}
 use Rattle.std.specs.Prelude.{Ok}
 use Rattle.std.proofs.lemmas.Bool.{lt-ltb, le-ltb}
+use Rattle.std.proofs.lemmas.List.{length-take-le}
 use Rattle.prefix_log.specs.Logs.{IsLog}
 use Rattle.prefix_log.specs.declared.snapshot.Snapshot.{Snapshot}
 use Rattle.prg_chacha.specs.declared.seed.Seed.{Seed}
@@ -9,11 +10,13 @@ use Rattle.scan_chunks.specs.Shelf.{Held}
 use Rattle.server_rounds.specs.declared.opened.OpenedPair.{OpenedPair}
 use Rattle.table_schema.specs.declared.rows.Row.{Row}
 use Rattle.table_schema.specs.declared.widths.Widths.{Widths}
+use Rattle.agreed_rows.specs.Agreed.{Entries, first_rows}
+use Rattle.agreed_rows.specs.Servers.{IsFixOf, IsServer, KeepsFirst}
+use Rattle.agreed_rows.proofs.Shares.{fix_keeps}
 use Rattle.waldo_core.specs.Core.{Actor, Core, prefix, with_actor}
-use Rattle.waldo_core.specs.Held.{AgreeOn, AreCuts, AreFirst, Fixed, IsActorOf, IsFixOf, IsMachine, IsServer, Keeps, Kept, KeepsFirst, Table, core_of, log_of, next_server_of, seen_actor, seen_machine}
+use Rattle.waldo_core.specs.Held.{AreFirst, Fixed, IsActorOf, IsMachine, Keeps, Table, core_of, log_of, next_server_of, seen_actor, seen_machine}
 use Rattle.waldo_core.specs.Machines.{Seen}
 use Rattle.waldo_core.specs.Outcomes.{Quietly}
-use Rattle.waldo_core.specs.declared.snapshots.Agreement.{Agreement}
 use Rattle.waldo_core.specs.Step.{acts, step}
 use Rattle.waldo_core.specs.declared.actor.ActorState.{ActorState}
 use Rattle.waldo_core.specs.declared.events.Event.TheVariants as events
@@ -23,7 +26,6 @@ use Rattle.waldo_core.specs.declared.logs.Logs.{Logs}
 use Rattle.waldo_core.specs.declared.snapshots.Snapshots.{Snapshots}
 use Rattle.waldo_core.specs.declared.snapshots.Snapshots.TheVariants as found
 use Rattle.waldo_core.proofs.Acts.{seen_set, seen_there, stays}
-use Rattle.waldo_core.proofs.Shares.{cut_keeps, fix_keeps}
 
 -- ---- the actor's part
 
@@ -44,91 +46,79 @@ pub again : (held : Snapshot → Held) (logs : Logs) (a b : ActorState) → foun
     → Fixed held logs a b (replies.Again (next_server_of a.snapshots) (found_by logs a.snapshots) a.floor)
 again held logs a b lt is = record {
   draw = ap (λ (x : ActorState). x.draw) is;
-  kept = subst (λ (s : Snapshots). Kept held logs a.snapshots s) (sym (ap (λ (x : ActorState). x.snapshots) is)) tt;
   does = does_again held logs a b a.snapshots refl lt is;
 }
 
 -- a snapshot is kept
-does_keep : (held : Snapshot → Held) (logs : Logs) (a b : ActorState) (u : Snapshot) (s : Snapshots) (reply : Reply) → a.snapshots ≡ s → IsFixOf (held u) (log_of logs (next_server_of s)) → a.floor ≤ found_by logs s
-    → Keeps held u s a b reply
+does_keep : (held : Snapshot → Held) (w : Widths) (order : List (Row × Seed)) (logs : Logs) (a b : ActorState) (u : Snapshot) (s : Snapshots) (reply : Reply) → a.snapshots ≡ s → IsFixOf (held u) (log_of logs (next_server_of s)) → a.floor ≤ found_by logs s
+    → Keeps held w order u s a b reply
     → (capacity number : ℕ) (core : Core) (pair : OpenedPair) → core.zero ≡ logs.zero.journal → core.one ≡ logs.one.journal → core.two ≡ logs.two.journal
     → acts capacity core (events.Fix number) pair (Some (seen_actor held a)) ≡ Some (with_actor core number (seen_actor held b), reply)
-does_keep held logs a b u found.Unfixed reply was fix le keeps capacity number core pair z0 z1 z2 =
+does_keep held w order logs a b u found.Unfixed reply was fix le keeps capacity number core pair z0 z1 z2 =
     rw (keeps.0, keeps.1, was, z0, fix.rows, le-ltb (prefix logs.zero.journal) a.floor le) refl
-does_keep held logs a b u (found.First s) reply was fix le keeps capacity number core pair z0 z1 z2 =
+does_keep held w order logs a b u (found.First s) reply was fix le keeps capacity number core pair z0 z1 z2 =
     rw (keeps.0, keeps.1, was, z1, fix.rows, le-ltb (prefix logs.one.journal) a.floor le) refl
-does_keep held logs a b u (found.Second s t) reply was fix le keeps capacity number core pair z0 z1 z2 =
-    rw (keeps.actor, keeps.says, keeps.cuts.zero.rows, was, z2, fix.rows, le-ltb (prefix logs.two.journal) a.floor le) refl
-does_keep held logs a b u (found.Agreed g) reply was fix le keeps capacity number core pair z0 z1 z2 =
+does_keep held w order logs a b u (found.Second s t) reply was fix le keeps capacity number core pair z0 z1 z2 =
+    rw (keeps.actor, keeps.says, keeps.rows, was, z2, fix.rows, le-ltb (prefix logs.two.journal) a.floor le) refl
+does_keep held w order logs a b u (found.Agreed g) reply was fix le keeps capacity number core pair z0 z1 z2 =
     rw (keeps.0, keeps.1, was, z0, fix.rows, le-ltb (prefix logs.zero.journal) a.floor le) refl
 
-kept_draw : (held : Snapshot → Held) (a b : ActorState) (u : Snapshot) (s : Snapshots) (reply : Reply) → Keeps held u s a b reply → b.draw ≡ a.draw
-kept_draw held a b u found.Unfixed reply keeps = ap (λ (x : ActorState). x.draw) keeps.0
-kept_draw held a b u (found.First s) reply keeps = ap (λ (x : ActorState). x.draw) keeps.0
-kept_draw held a b u (found.Second s t) reply keeps = ap (λ (x : ActorState). x.draw) keeps.actor
-kept_draw held a b u (found.Agreed g) reply keeps = ap (λ (x : ActorState). x.draw) keeps.0
+kept_draw : (held : Snapshot → Held) (w : Widths) (order : List (Row × Seed)) (a b : ActorState) (u : Snapshot) (s : Snapshots) (reply : Reply) → Keeps held w order u s a b reply → b.draw ≡ a.draw
+kept_draw held w order a b u found.Unfixed reply keeps = ap (λ (x : ActorState). x.draw) keeps.0
+kept_draw held w order a b u (found.First s) reply keeps = ap (λ (x : ActorState). x.draw) keeps.0
+kept_draw held w order a b u (found.Second s t) reply keeps = ap (λ (x : ActorState). x.draw) keeps.actor
+kept_draw held w order a b u (found.Agreed g) reply keeps = ap (λ (x : ActorState). x.draw) keeps.0
 
-kept_found : (held : Snapshot → Held) (logs : Logs) (a b : ActorState) (u : Snapshot) (s : Snapshots) (reply : Reply) → IsLog (log_of logs (next_server_of s)) → IsFixOf (held u) (log_of logs (next_server_of s))
-    → Keeps held u s a b reply → Kept held logs s b.snapshots
-kept_found held logs a b u found.Unfixed reply legal fix keeps =
-    subst (λ (x : ActorState). Kept held logs found.Unfixed x.snapshots) (sym keeps.0) (legal, fix)
-kept_found held logs a b u (found.First s) reply legal fix keeps =
-    subst (λ (x : ActorState). Kept held logs (found.First s) x.snapshots) (sym keeps.0) (refl, legal, fix)
-kept_found held logs a b u (found.Second s t) reply legal fix keeps =
-    subst (λ (x : ActorState). Kept held logs (found.Second s t) x.snapshots) (sym keeps.actor)
-    (record { zero = s; one = t; two = u; before = refl; legal = legal; third = fix; cuts = keeps.cuts })
-kept_found held logs a b u (found.Agreed g) reply legal fix keeps =
-    subst (λ (x : ActorState). Kept held logs (found.Agreed g) x.snapshots) (sym keeps.0) (legal, fix)
+-- and what was found are first rows of the order
+pub kept_first : (held : Snapshot → Held) (w : Widths) (order : List (Row × Seed)) (a b : ActorState) (u : Snapshot) (s : Snapshots) (reply : Reply) → AreFirst held w order s
+    → KeepsFirst w (next_server_of s) order (held u).rows (held u) → Keeps held w order u s a b reply → AreFirst held w order b.snapshots
+kept_first held w order a b u found.Unfixed reply first keeps is = subst (λ (x : ActorState). AreFirst held w order x.snapshots) (sym is.0) keeps
+kept_first held w order a b u (found.First s) reply first keeps is = subst (λ (x : ActorState). AreFirst held w order x.snapshots) (sym is.0) (first, keeps)
+kept_first held w order a b u (found.Second s t) reply first keeps is = subst (λ (x : ActorState). AreFirst held w order x.snapshots) (sym is.actor) is.first
+kept_first held w order a b u (found.Agreed g) reply first keeps is = subst (λ (x : ActorState). AreFirst held w order x.snapshots) (sym is.0) keeps
 
-pub fixed : (held : Snapshot → Held) (logs : Logs) (a b : ActorState) (u : Snapshot) (reply : Reply) (k : ℕ) → k ≡ next_server_of a.snapshots → IsLog (log_of logs k) → IsFixOf (held u) (log_of logs k)
-    → a.floor ≤ prefix (log_of logs k).journal → Keeps held u a.snapshots a b reply → Fixed held logs a b reply
-fixed held logs a b u reply k next legal fix le keeps =
-    let fix' = subst (λ (n : ℕ). IsFixOf (held u) (log_of logs n)) next fix in
-    record {
-      draw = kept_draw held a b u a.snapshots reply keeps;
-      kept = kept_found held logs a b u a.snapshots reply (subst (λ (n : ℕ). IsLog (log_of logs n)) next legal) fix' keeps;
-      does = does_keep held logs a b u a.snapshots reply refl fix' (subst (λ (n : ℕ). a.floor ≤ prefix (log_of logs n).journal) next le) keeps;
-    }
+pub fixed : (held : Snapshot → Held) (w : Widths) (order : List (Row × Seed)) (logs : Logs) (a b : ActorState) (u : Snapshot) (reply : Reply) (k : ℕ) → k ≡ next_server_of a.snapshots
+    → IsFixOf (held u) (log_of logs k) → a.floor ≤ prefix (log_of logs k).journal → Keeps held w order u a.snapshots a b reply → Fixed held logs a b reply
+fixed held w order logs a b u reply k next fix le keeps = record {
+  draw = kept_draw held w order a b u a.snapshots reply keeps;
+  does = does_keep held w order logs a b u a.snapshots reply refl (subst (λ (n : ℕ). IsFixOf (held u) (log_of logs n)) next fix)
+      (subst (λ (n : ℕ). a.floor ≤ prefix (log_of logs n).journal) next le) keeps;
+}
+
+-- the snapshot of the next server keeps first rows of the order
+pub next_keeps : (held : Snapshot → Held) (w : Widths) (order : List (Row × Seed)) (logs : Logs) (u : Snapshot) (s : Snapshots) (k : ℕ)
+    → ((n : ℕ) → n < 3 → IsServer n w (log_of logs n).capacity order (log_of logs n)) → k ≡ next_server_of s → IsLog (log_of logs k) → IsFixOf (held u) (log_of logs k)
+    → KeepsFirst w (next_server_of s) order (held u).rows (held u)
+next_keeps held w order logs u s k servers next legal fix =
+    fix_keeps (next_server_of s) w (log_of logs (next_server_of s)).capacity order (log_of logs (next_server_of s)) (held u) (servers (next_server_of s) (below s))
+    (subst (λ (n : ℕ). IsLog (log_of logs n)) next legal) (subst (λ (n : ℕ). IsFixOf (held u) (log_of logs n)) next fix)
+  where
+    below : (x : Snapshots) → next_server_of x < 3
+    below found.Unfixed = omega arith
+    below (found.First a) = omega arith
+    below (found.Second a b) = omega arith
+    below (found.Agreed a) = omega arith
 
 -- the third snapshot is kept
-pub keeps_third : (held : Snapshot → Held) (u : Snapshot) (old : Snapshots) (a b : ActorState) (reply : Reply) (s t : Snapshot) (g : Agreement) (n : ℕ) → old ≡ found.Second s t
-    → AreCuts (held s) (held t) (held u) (held g.zero) (held g.one) (held g.two) → n ≡ (held g.zero).rows → b ≡ record { floor = n; draw = a.draw; snapshots = found.Agreed g } → reply ≡ replies.Agreed n
-    → Keeps held u old a b reply
-keeps_third held u old a b reply s t g n was cuts rows actor says =
-    subst (λ (x : Snapshots). Keeps held u x a b reply) (sym was) (record {
-      agreement = g;
-      cuts = cuts;
+pub keeps_third : (held : Snapshot → Held) (w : Widths) (order : List (Row × Seed)) (u : Snapshot) (old : Snapshots) (a b : ActorState) (reply : Reply) (s t : Snapshot) (g : Entries) (n : ℕ)
+    → old ≡ found.Second s t → AreFirst held w order old → KeepsFirst w (next_server_of old) order (held u).rows (held u) → g ≡ first_rows w order (min (min (held s).rows (held t).rows) (held u).rows)
+    → n ≡ length g.all → b ≡ record { floor = n; draw = a.draw; snapshots = found.Agreed g } → reply ≡ replies.Agreed n → Keeps held w order u old a b reply
+keeps_third held w order u old a b reply s t g n was first next of rows actor says =
+    let least : ℕ = min (min (held s).rows (held t).rows) (held u).rows in
+    let two = subst (λ (x : Snapshots). AreFirst held w order x) was first in
+    let long : length g.all ≡ least = ap (λ (e : Entries). length e.all) of ∙ length-take-le least order (omega (arith, two.0.few)) in
+    subst (λ (x : Snapshots). Keeps held w order u x a b reply) (sym was) (record {
+      agreed = g;
+      first = of ∙ ap (first_rows w order) (sym long);
+      rows = long;
       actor = actor ∙ ap (λ (m : ℕ). record { floor = m; draw = a.draw; snapshots = found.Agreed g }) rows;
       says = says ∙ ap (λ (m : ℕ). replies.Agreed m) rows;
     })
 
 -- ---- the machine
 
--- the three snapshots, cut, agree on the rows of the least
-agree : (held : Snapshot → Held) (w : Widths) (order : List (Row × Seed)) (h0 h1 h2 new0 new1 new2 : Held) → KeepsFirst w 0 order h0.rows h0 → KeepsFirst w 1 order h1.rows h1 → KeepsFirst w 2 order h2.rows h2
-    → AreCuts h0 h1 h2 new0 new1 new2 → AgreeOn w order new0.rows new0 new1 new2
-agree held w order h0 h1 h2 new0 new1 new2 k0 k1 k2 cuts =
-    let n = min (min h0.rows h1.rows) h2.rows in
-    subst (λ (m : ℕ). AgreeOn w order m new0 new1 new2) (sym cuts.zero.rows) (record {
-      zero = cut_keeps w 0 order n h0 new0 k0 (omega arith) cuts.zero;
-      one = cut_keeps w 1 order n h1 new1 k1 (omega arith) cuts.one;
-      two = cut_keeps w 2 order n h2 new2 k2 (omega arith) cuts.two;
-    })
-
--- what the fixes found after one more are first rows of the order
-first_next : (held : Snapshot → Held) (w : Widths) (most : ℕ) (order : List (Row × Seed)) (logs : Logs) (old new : Snapshots)
-    → ((k : ℕ) → k < 3 → IsServer k w most order (log_of logs k)) → AreFirst held w order old → Kept held logs old new → AreFirst held w order new
-first_next held w most order logs old found.Unfixed servers first kept = tt
-first_next held w most order logs old (found.First s) servers first kept = fix_keeps 0 w most order logs.zero (held s) (servers 0 (omega arith)) kept.0 kept.1
-first_next held w most order logs old (found.Second s t) servers first kept =
-    (subst (λ (x : Snapshots). AreFirst held w order x) kept.0 first, fix_keeps 1 w most order logs.one (held t) (servers 1 (omega arith)) kept.1 kept.2)
-first_next held w most order logs old (found.Agreed a) servers first kept =
-    let before : AreFirst held w order (found.Second kept.zero kept.one) = subst (λ (x : Snapshots). AreFirst held w order x) kept.before first in
-    let third = fix_keeps 2 w most order logs.two (held kept.two) (servers 2 (omega arith)) kept.legal kept.third in
-    agree held w order (held kept.zero) (held kept.one) (held kept.two) (held a.zero) (held a.one) (held a.two) before.0 before.1 third kept.cuts
-
 module _ (held : Snapshot → Held) (space : ℕ) (t : Table) (i : ℕ) (a b : ActorState) (after : Logs) (ok : IsMachine held space t) (here : slice_get t.actors i ≡ Some a)
-    (logs : after ≡ t.logs) (reply : Reply) (p : Fixed held t.logs a b reply) where
+    (logs : after ≡ t.logs) (reply : Reply) (first : AreFirst held t.widths t.order b.snapshots) (p : Fixed held t.logs a b reply) where
   abbrev pub next : Table
   next = record t { logs = after; actors = set t.actors i b }
 
@@ -142,7 +132,7 @@ module _ (held : Snapshot → Held) (space : ℕ) (t : Table) (i : ℕ) (a b : A
   actor_next : IsActorOf held t.widths t.order b
   actor_next = record {
     draw = λ d is. (ok.actors i a here).draw d (sym p.draw ∙ is);
-    first = first_next held t.widths t.capacity t.order t.logs a.snapshots b.snapshots ok.servers (ok.actors i a here).first p.kept;
+    first = first;
   }
 
   pub fixed_kept : IsMachine held space next

@@ -18,9 +18,10 @@ use Rattle.prefix_log.specs.declared.bulk.Entry.{Entry}
 use Rattle.prefix_log.specs.declared.snapshot.Snapshot.{Snapshot}
 use Rattle.scan_chunks.specs.Shelf.{Held}
 use Rattle.server_rounds.specs.declared.opened.OpenedPair.{OpenedPair}
+use Rattle.agreed_rows.specs.Servers.{IsServer}
 use Rattle.waldo_core.specs.Core.{Actor, Core, empty_core, fresh}
 use Rattle.waldo_core.specs.Core.Fixes.{Unfixed}
-use Rattle.waldo_core.specs.Held.{AreFirst, IsActorOf, IsMachine, IsServer, Table, core_of, log_of, seen_actor, seen_fixes, seen_open}
+use Rattle.waldo_core.specs.Held.{AreFirst, IsActorOf, IsMachine, Table, core_of, log_of, seen_actor, seen_fixes, seen_open}
 use Rattle.waldo_core.specs.InBulk.{Leads, appending, core_after, pair_of}
 use Rattle.waldo_core.specs.Legal.{IsLegal}
 use Rattle.waldo_core.specs.declared.actor.ActorState.{ActorState}
@@ -54,13 +55,13 @@ pair_there (e ∷ entries) zero d lt = refl
 pair_there (e ∷ entries) (suc place) d lt = pair_there entries place d (omega arith)
 
 -- a log that took the rows has pieces of their order
-pub server_of : (k : ℕ) (w : Widths) (entries : List Entry) (log : Log) (d : Entry) → TakesRows w k entries log → IsServer k w (length entries) (map pair_of entries) log
-server_of k w entries log d takes = record {
+pub server_of : (k : ℕ) (w : Widths) (entries : List Entry) (log : Log) (d : Entry) → All (λ (e : Entry). Holds w e.row) entries → TakesRows w k entries log → IsServer k w (length entries) (map pair_of entries) log
+server_of k w entries log d rows takes = record {
   number = takes.server;
   widths = takes.widths;
   capacity = takes.capacity;
   shares = λ place piece e. let t = takes.pieces place piece d e in
-      record { entry = pair_of (get_or entries place d); there = pair_there entries place d t.0; share = t.1; wide = t.2 };
+      record { entry = pair_of (get_or entries place d); there = pair_there entries place d t.0; held = rows place d t.0; share = t.1; wide = t.2 };
 }
 
 -- ---- actors
@@ -179,9 +180,9 @@ module _ (held : Snapshot → Held) (space : ℕ) (t : Table) (is : IsMachine he
       ∙ ap (λ (n : ℕ). record { floor = n; draw = None; fixes = Unfixed } ∷ listed 15 (λ (i : ℕ). fresh)) count)
 
   servers_taken : (k : ℕ) → k < 3 → IsServer k t.widths t.capacity (t.order ++ map pair_of entries) (log_of logs k)
-  servers_taken zero lt = rw (order_is, ← all) (server_of 0 t.widths entries logs.zero no_entry zero_takes)
-  servers_taken (suc zero) lt = rw (order_is, ← all) (server_of 1 t.widths entries logs.one no_entry one_takes)
-  servers_taken (suc (suc zero)) lt = rw (order_is, ← all) (server_of 2 t.widths entries logs.two no_entry two_takes)
+  servers_taken zero lt = rw (order_is, ← all) (server_of 0 t.widths entries logs.zero no_entry rows zero_takes)
+  servers_taken (suc zero) lt = rw (order_is, ← all) (server_of 1 t.widths entries logs.one no_entry rows one_takes)
+  servers_taken (suc (suc zero)) lt = rw (order_is, ← all) (server_of 2 t.widths entries logs.two no_entry rows two_takes)
   servers_taken (suc (suc (suc k))) lt = absurd (omega arith)
 
   pub machine_taken : IsMachine held space after

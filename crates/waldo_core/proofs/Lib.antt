@@ -12,9 +12,6 @@ pub mod Journals
 pub mod Legal
 pub mod Looked
 pub mod OpenDraws
-pub mod OverRows
 pub mod Placed
-pub mod Plainly
-pub mod Prefixes
 pub mod Shares
 pub mod Stays

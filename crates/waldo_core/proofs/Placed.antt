@@ -1,19 +1,20 @@
 -- A placing.
 use Rattle.std.proofs.Common.{◌≡◌, ◌∙◌, refl, sym, ap, subst, ℕ, zero, suc, ◌<◌, ◌≤◌, Bool, true, false, Option, Some, None, slice_get, List, set, arith}
-use Rattle.std.specs.Prelude.{Ok, is_none, nat_lt, if◌then◌else◌}
+use Rattle.std.specs.Prelude.{Ok, is_none, is_some, nat_lt, if◌then◌else◌}
 use Rattle.std.proofs.lemmas.Bool.{le-ltb}
 use Rattle.list_facts.specs.Count.{has}
 use Rattle.onehot_column.specs.Piece.{HasWidths}
 use Rattle.onehot_column.specs.declared.piece.Piece.{Piece}
-use Rattle.prefix_log.specs.Logs.{Log, IsLog, IsOwn}
+use Rattle.prefix_log.specs.Logs.{Log, IsLog, IsOwn, piece_at, placed as log_placed}
 use Rattle.prefix_log.specs.declared.snapshot.Snapshot.{Snapshot}
 use Rattle.prg_chacha.specs.declared.seed.Seed.{Seed}
 use Rattle.scan_chunks.specs.Shelf.{Held}
 use Rattle.server_rounds.specs.declared.opened.OpenedPair.{OpenedPair}
 use Rattle.table_schema.specs.declared.rows.Row.{Row}
 use Rattle.table_schema.specs.declared.widths.Widths.{Widths}
+use Rattle.agreed_rows.specs.Servers.{IsServer, IsShareAt}
 use Rattle.waldo_core.specs.Core.{Actor, Core, Open, is_pending, journal_of, with_actor, with_journal}
-use Rattle.waldo_core.specs.Held.{AreFirst, CanPlace, HasNone, HoldsShares, IsActorOf, IsMachine, IsServer, IsShareAt, Places, PlacesPiece, Table, core_of, log_of, piece_for, seen_actor, seen_draw, seen_machine, seen_open, with_piece, without}
+use Rattle.waldo_core.specs.Held.{AreFirst, CanPlace, HasNone, HoldsShares, IsActorOf, IsMachine, Places, PlacesPiece, Table, core_of, log_of, piece_for, seen_actor, seen_draw, seen_machine, seen_open, with_piece, without}
 use Rattle.waldo_core.specs.Legal.{IsOpen}
 use Rattle.waldo_core.specs.Machines.{Seen}
 use Rattle.waldo_core.specs.Outcomes.{Quietly}
@@ -26,7 +27,7 @@ use Rattle.waldo_core.specs.declared.events.Reply.TheVariants as replies
 use Rattle.waldo_core.specs.declared.logs.Logs.{Logs}
 use Rattle.waldo_core.specs.declared.snapshots.Snapshots.{Snapshots}
 use Rattle.waldo_core.proofs.Acts.{legal_there, no_case, same_table, seen_set, seen_there, stays}
-use Rattle.waldo_core.proofs.Shares.{journal_placed, server_placed}
+use Rattle.agreed_rows.proofs.Shares.{in_journal, server_placed}
 
 -- ---- the actor's part
 
@@ -72,6 +73,14 @@ not_idle a k pending number capacity core pair = by (nat_lt k 3) a.draw
 -- a core with the journals of these logs
 abbrev core_with : Core → Logs → Core
 core_with c logs = record { order = c.order; zero = logs.zero.journal; one = logs.one.journal; two = logs.two.journal; actors = c.actors }
+
+-- a piece comes to a place: the log's journal has the place, at its end where it was not there
+journal_placed : (log : Log) (place : ℕ) (piece : Piece) → IsLog log → (log_placed log place piece).journal ≡ with_place place log.journal
+journal_placed log place piece legal = by (is_some (piece_at log.slots place)) refl
+  where
+    by : (b : Bool) → is_some (piece_at log.slots place) ≡ b → (log_placed log place piece).journal ≡ with_place place log.journal
+    by true e = let there : has place log.journal ≡ true = in_journal log place legal ∙ e in rw (e, there) refl
+    by false e = let free : has place log.journal ≡ false = in_journal log place legal ∙ e in rw (e, free) refl
 
 -- a place that is there is not put there again
 with_place_there : (place : ℕ) (journal : List ℕ) → has place journal ≡ true → with_place place journal ≡ journal

@@ -5,6 +5,7 @@ use Rattle.std.proofs.lemmas.List.{length_push}
 use Rattle.std.proofs.lemmas.Option.{none-some, same_Some}
 use Rattle.list_facts.specs.Count.{has, times}
 use Rattle.prg_chacha.specs.declared.seed.Seed.{Seed}
+use Rattle.prefix_log.proofs.Prefixes.{prefix_grows, prefix_most}
 use Rattle.query_plan.specs.declared.query.Query.{Query}
 use Rattle.server_rounds.specs.declared.opened.OpenedPair.{OpenedPair}
 use Rattle.table_schema.specs.declared.rows.Row.{Row}
@@ -20,7 +21,6 @@ use Rattle.waldo_core.specs.declared.events.Reply.TheVariants as replies
 use Rattle.waldo_core.proofs.Grown.{Grown, grown_more, grown_same, placed_there}
 use Rattle.waldo_core.proofs.Legal.{Later, actor_stays, becomes_legal, empty_legal}
 use Rattle.waldo_core.proofs.OpenDraws.{All-get, HasDraw, open_of, open_own}
-use Rattle.waldo_core.proofs.Prefixes.{prefix_grows, prefix_most}
 
 -- ---- cores on the way
 

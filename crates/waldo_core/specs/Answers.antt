@@ -1,5 +1,5 @@
 -- The messages of an event, what they open, and when it is the plain answer.
-use Rattle.std.specs.Prelude.{◌≡◌, ℕ, ⊤, Option, Some, None, List, [], map, take, slice_get}
+use Rattle.std.specs.Prelude.{◌≡◌, ℕ, ⊤, Option, Some, None, List, [], take, slice_get}
 use Rattle.onehot_column.specs.Code.{word_of}
 use Rattle.prg_chacha.specs.declared.seed.Seed.{Seed}
 use Rattle.query_plan.specs.Seeds.{weights_of}
@@ -10,25 +10,14 @@ use Rattle.server_rounds.specs.declared.opened.OpenedPair.{OpenedPair}
 use Rattle.table_schema.specs.declared.rows.Row.{Row}
 use Rattle.table_schema.specs.declared.widths.Widths.{Widths}
 use Rattle.transcript.specs.Plain.{plain}
-use Rattle.transcript.specs.Rows.{pieces_over}
-use Rattle.transcript.specs.Setup.{Setup}
-use Rattle.transcript.specs.Formulas.{setup_for}
-use Rattle.transcript.specs.Transcript.{IsPart, IsTranscript, opened_of}
+use Rattle.transcript.specs.Transcript.{IsPart}
 use Rattle.wire_line.specs.declared.message.Message.{Message}
+use Rattle.agreed_rows.specs.Agreed.{first_rows}
+use Rattle.agreed_rows.specs.Answers.{Opens, rows_in, setup_over}
 use Rattle.waldo_core.specs.Core.{Actor, Core, Fixes}
 use Rattle.waldo_core.specs.Core.Fixes.{Unfixed, First, Second, Agreed}
 use Rattle.waldo_core.specs.declared.events.Event.{Event}
 use Rattle.waldo_core.specs.declared.events.Event.TheVariants as events
-
--- a query with its seed over the first n rows of the order
-abbrev pub setup_over : Widths → List (Row × Seed) → ℕ → Query → Seed → Setup
-setup_over w order n query seed = setup_for query w seed n (pieces_over w (take n order))
-
--- these are all messages of a query over the first n rows, and they open this pair
-pub record Opens (w : Widths) (order : List (Row × Seed)) (n : ℕ) (query : Query) (seed : Seed) (ms : List Message) (pair : OpenedPair) : Type 0 where
-  pub transcript : IsTranscript (setup_over w order n query seed) ms
-  pub total : pair.total ≡ opened_of (setup_over w order n query seed) ms 0
-  pub weighted : pair.weighted ≡ opened_of (setup_over w order n query seed) ms 1
 
 -- how many rows some fixes agreed on
 abbrev pub agreed_in : Fixes → Option ℕ
@@ -45,7 +34,7 @@ rows_agreed (Some actor) = agreed_in actor.fixes
 -- the messages of an answer over the rows that were agreed on
 abbrev pub OpensOver : Widths → List (Row × Seed) → Option ℕ → Query → Seed → List Message → OpenedPair → Type 0
 OpensOver w order None query seed ms pair = ⊥
-OpensOver w order (Some n) query seed ms pair = Opens w order n query seed ms pair
+OpensOver w order (Some n) query seed ms pair = Opens (first_rows w order n) query seed ms pair
 
 -- the messages of an event: of an answer all those of its query over the rows that its actor agreed on, which open this pair; of any
 -- other event none
@@ -59,7 +48,7 @@ Carries w core (events.Answer number query seed) ms pair = OpensOver w core.orde
 -- the first messages of an answer
 abbrev pub BeginsOver : Widths → List (Row × Seed) → Option ℕ → Query → Seed → List Message → Type 0
 BeginsOver w order None query seed ms = ms ≡ []
-BeginsOver w order (Some n) query seed ms = IsPart (setup_over w order n query seed) ms
+BeginsOver w order (Some n) query seed ms = IsPart (setup_over (first_rows w order n) query seed) ms
 
 -- the first messages of an event
 abbrev pub Begins : Widths → Core → Event → List Message → Type 0
@@ -72,7 +61,7 @@ Begins w core (events.Answer number query seed) ms = BeginsOver w core.order (ro
 -- the plain answer over the first n rows, and the key times it
 abbrev pub plain_pair : List (Row × Seed) → ℕ → Query → Seed → OpenedPair
 plain_pair order n query seed =
-    let total = word_of (plain query (map (λ (entry : Row × Seed). entry.0) (take n order))) in
+    let total = word_of (plain query (rows_in (take n order))) in
     record { total = total; weighted = times (key_from (weights_of seed 1) query.count) total }
 
 abbrev pub IsPlainOver : List (Row × Seed) → Option ℕ → Query → Seed → OpenedPair → Type 0

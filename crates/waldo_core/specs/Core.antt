@@ -1,7 +1,7 @@
 -- The core: one order of draws, the journals of three servers, and what sixteen actors have seen and have under way.
-use Rattle.std.specs.Prelude.{ℕ, zero, suc, ◌+◌, Bool, true, false, if◌then◌else◌, Option, None, List, [], length, slice_set}
-use Rattle.list_facts.specs.Count.{has}
+use Rattle.std.specs.Prelude.{ℕ, zero, suc, Bool, true, false, Option, None, List, [], slice_set}
 use Rattle.list_facts.specs.Listed.{listed}
+pub use Rattle.prefix_log.specs.Journal.{gap_from, prefix}
 use Rattle.prg_chacha.specs.declared.seed.Seed.{Seed}
 use Rattle.table_schema.specs.declared.rows.Row.{Row}
 
@@ -63,12 +63,3 @@ is_pending Unfixed = false
 is_pending (First p) = true
 is_pending (Second p q) = true
 is_pending (Agreed n) = false
-
--- the first number from n on that is not in the journal, of so many numbers
-abbrev pub gap_from : ℕ → ℕ → List ℕ → ℕ
-gap_from zero n journal = n
-gap_from (suc more) n journal = if has n journal then gap_from more (n + 1) journal else n
-
--- the prefix of a journal, the first number that is not in it; as its places are apart it is at most the journal's length
-abbrev pub prefix : List ℕ → ℕ
-prefix journal = gap_from (length journal) 0 journal

@@ -1,21 +1,18 @@
 -- What the machine holds of a core. A snapshot is seen through what it holds as a shelf.
-use Rattle.std.specs.Prelude.{◌≡◌, ℕ, zero, suc, ◌<◌, ◌≤◌, ⊤, is_none, Option, Some, None, List, All, length, map, min, slice_get, take}
-use Rattle.onehot_column.specs.Code.{width_of}
-use Rattle.onehot_column.specs.Piece.{HasWidths, IsPiece}
+use Rattle.std.specs.Prelude.{◌≡◌, ℕ, zero, suc, ◌<◌, ◌≤◌, ⊤, is_none, Option, Some, None, List, All, length, map, min, slice_get}
 use Rattle.onehot_column.specs.declared.piece.Piece.{Piece}
-use Rattle.prefix_log.specs.Logs.{Log, IsLog, IsOwn, piece_at, placed as log_placed}
-use Rattle.prefix_log.specs.Rows.{IsCut}
-use Rattle.prefix_log.specs.Snapshots.{HoldsPieces, KeepsRows, pieces_in}
+use Rattle.prefix_log.specs.Logs.{Log, IsOwn, placed as log_placed}
 use Rattle.prefix_log.specs.declared.snapshot.Snapshot.{Snapshot}
 use Rattle.prg_chacha.specs.declared.seed.Seed.{Seed}
-use Rattle.scan_chunks.specs.Laws.{AreParts, GoOn}
 use Rattle.scan_chunks.specs.Shelf.{Held}
 use Rattle.server_rounds.specs.declared.opened.OpenedPair.{OpenedPair}
 use Rattle.table_schema.specs.Widths.{Fits, Holds, column_bits}
 use Rattle.table_schema.specs.declared.rows.Row.{Row}
 use Rattle.table_schema.specs.declared.widths.Widths.{Widths}
+use Rattle.agreed_rows.specs.Agreed.{Entries, first_rows}
+use Rattle.agreed_rows.specs.Servers.{IsServer, IsShareAt, KeepsFirst}
 use Rattle.waldo_core.specs.Answers.{rows_agreed}
-use Rattle.waldo_core.specs.Core.{Actor, Core, Fixes, Open, journal_of, prefix, with_actor, with_journal}
+use Rattle.waldo_core.specs.Core.{Actor, Core, Fixes, Open, journal_of, with_actor, with_journal}
 use Rattle.waldo_core.specs.Core.Fixes.{Unfixed, First, Second, Agreed}
 use Rattle.waldo_core.specs.Legal.{IsLegal}
 use Rattle.waldo_core.specs.Machines.{Seen}
@@ -27,7 +24,6 @@ use Rattle.waldo_core.specs.declared.events.Event.TheVariants as events
 use Rattle.waldo_core.specs.declared.events.Reply.{Reply}
 use Rattle.waldo_core.specs.declared.events.Reply.TheVariants as replies
 use Rattle.waldo_core.specs.declared.logs.Logs.{Logs}
-use Rattle.waldo_core.specs.declared.snapshots.Agreement.{Agreement}
 use Rattle.waldo_core.specs.declared.snapshots.Snapshots.{Snapshots}
 use Rattle.waldo_core.specs.declared.snapshots.Snapshots.TheVariants as found
 
@@ -49,11 +45,6 @@ with_log logs (suc (suc k)) log = record logs { two = log }
 abbrev pub with_piece : Logs → ℕ → ℕ → Option Piece → Logs
 with_piece logs k place None = logs
 with_piece logs k place (Some piece) = with_log logs k (log_placed (log_of logs k) place piece)
-
--- a shelf is a snapshot of a log: it holds the pieces of the log's prefix
-pub record IsFixOf (h : Held) (log : Log) : Type 0 where
-  pub rows : h.rows ≡ prefix log.journal
-  pub pieces : HoldsPieces log.widths (pieces_in (take h.rows log.slots)) h
 
 -- ---- draws
 
@@ -84,7 +75,7 @@ abbrev pub seen_fixes : (Snapshot → Held) → Snapshots → Fixes
 seen_fixes held found.Unfixed = Unfixed
 seen_fixes held (found.First s) = First (held s).rows
 seen_fixes held (found.Second s t) = Second (held s).rows (held t).rows
-seen_fixes held (found.Agreed a) = Agreed (held a.zero).rows
+seen_fixes held (found.Agreed a) = Agreed (length a.all)
 
 -- the server of the next fix
 abbrev pub next_server_of : Snapshots → ℕ
@@ -93,24 +84,26 @@ next_server_of (found.First s) = 1
 next_server_of (found.Second s t) = 2
 next_server_of (found.Agreed a) = 0
 
--- three shelves, each cut to the rows of the least
-pub record AreCuts (old0 old1 old2 new0 new1 new2 : Held) : Type 0 where
-  pub zero : IsCut (min (min old0.rows old1.rows) old2.rows) old0 new0
-  pub one : IsCut (min (min old0.rows old1.rows) old2.rows) old1 new1
-  pub two : IsCut (min (min old0.rows old1.rows) old2.rows) old2 new2
+-- ---- rows of the order
 
--- shelves whose rows, one after another, are those of a whole one
-pub record ArePartsOf (whole : Held) (parts : List Held) : Type 0 where
-  pub rows : (column : ℕ) → column ≤ whole.columns → AreParts column parts whole
-  pub columns : All (λ (h : Held). h.columns ≡ whole.columns) parts
-  pub order : GoOn whole.start parts
+-- the pieces of an open draw are those of its place
+abbrev pub HoldsShares : Widths → List (Row × Seed) → OpenDraw → Type 0
+HoldsShares w order draw = (k : ℕ) (piece : Piece) → k < 3 → piece_for k draw ≡ Some piece → IsShareAt w k order draw.place piece
 
--- a shelf of so many rows of these widths, from chunk 0 on
-pub record AreRowsOf (w : Widths) (n : ℕ) (h : Held) : Type 0 where
-  pub rows : h.rows ≡ n
-  pub start : h.start ≡ 0
-  pub columns : h.columns ≡ w.columns
-  pub width : (column : ℕ) → column ≤ w.columns → h.width column ≡ width_of w column
+-- entries that are the first of the order
+abbrev pub AreFirstRows : Widths → List (Row × Seed) → Entries → Type 0
+AreFirstRows w order e = e ≡ first_rows w order (length e.all)
+
+-- each snapshot of an actor keeps the first rows of the order, and what it agreed on are its first rows
+abbrev pub AreFirst : (Snapshot → Held) → Widths → List (Row × Seed) → Snapshots → Type 0
+AreFirst held w order found.Unfixed = ⊤
+AreFirst held w order (found.First s) = KeepsFirst w 0 order (held s).rows (held s)
+AreFirst held w order (found.Second s t) = KeepsFirst w 0 order (held s).rows (held s) × KeepsFirst w 1 order (held t).rows (held t)
+AreFirst held w order (found.Agreed a) = AreFirstRows w order a
+
+pub record IsActorOf (held : Snapshot → Held) (w : Widths) (order : List (Row × Seed)) (a : ActorState) : Type 0 where
+  pub draw : (draw : OpenDraw) → a.draw ≡ Some draw → HoldsShares w order draw
+  pub first : AreFirst held w order a.snapshots
 
 -- ---- actors
 
@@ -157,84 +150,26 @@ abbrev pub Looks : (Snapshot → Held) → ℕ → Logs → ActorState → Actor
 Looks held k logs a b None = ((number : ℕ) → HasNone (seen_actor held a) (events.Look number k)) × (b ≡ a)
 Looks held k logs a b (Some reply) = LooksAt held k logs a b reply
 
--- an agreement after two fixes and a third: the three snapshots, cut to the rows of the least
-pub record AgreesAfter (held : Snapshot → Held) (logs : Logs) (old : Snapshots) (a : Agreement) : Type 0 where
-  pub zero : Snapshot
-  pub one : Snapshot
-  pub two : Snapshot
-  pub before : old ≡ found.Second zero one
-  pub legal : IsLog logs.two
-  pub third : IsFixOf (held two) logs.two
-  pub cuts : AreCuts (held zero) (held one) (held two) (held a.zero) (held a.one) (held a.two)
-
--- what the fixes have found after one more: nothing, or a snapshot beside those from before
-abbrev pub Kept : (Snapshot → Held) → Logs → Snapshots → Snapshots → Type 0
-Kept held logs old found.Unfixed = ⊤
-Kept held logs old (found.First s) = IsLog logs.zero × IsFixOf (held s) logs.zero
-Kept held logs old (found.Second s t) = (old ≡ found.First s) × IsLog logs.one × IsFixOf (held t) logs.one
-Kept held logs old (found.Agreed a) = AgreesAfter held logs old a
-
 -- a fix
 pub record Fixed (held : Snapshot → Held) (logs : Logs) (a b : ActorState) (reply : Reply) : Type 0 where
   pub draw : b.draw ≡ a.draw
-  pub kept : Kept held logs a.snapshots b.snapshots
   pub does : (capacity number : ℕ) (core : Core) (pair : OpenedPair) → core.zero ≡ logs.zero.journal → core.one ≡ logs.one.journal → core.two ≡ logs.two.journal
       → acts capacity core (events.Fix number) pair (Some (seen_actor held a)) ≡ Some (with_actor core number (seen_actor held b), reply)
 
--- a third snapshot is kept
-pub record KeepsThird (held : Snapshot → Held) (s t u : Snapshot) (a b : ActorState) (reply : Reply) : Type 0 where
-  pub agreement : Agreement
-  pub cuts : AreCuts (held s) (held t) (held u) (held agreement.zero) (held agreement.one) (held agreement.two)
-  pub actor : b ≡ record { floor = (held agreement.zero).rows; draw = a.draw; snapshots = found.Agreed agreement }
-  pub says : reply ≡ replies.Agreed (held agreement.zero).rows
+-- a third snapshot is kept: the actor agrees on the first rows of the order, as many as the least of the three has
+pub record KeepsThird (held : Snapshot → Held) (w : Widths) (order : List (Row × Seed)) (s t u : Snapshot) (a b : ActorState) (reply : Reply) : Type 0 where
+  pub agreed : Entries
+  pub first : AreFirstRows w order agreed
+  pub rows : length agreed.all ≡ min (min (held s).rows (held t).rows) (held u).rows
+  pub actor : b ≡ record { floor = length agreed.all; draw = a.draw; snapshots = found.Agreed agreed }
+  pub says : reply ≡ replies.Agreed (length agreed.all)
 
 -- a snapshot is kept beside these
-abbrev pub Keeps : (Snapshot → Held) → Snapshot → Snapshots → ActorState → ActorState → Reply → Type 0
-Keeps held u found.Unfixed a b reply = (b ≡ record a { snapshots = found.First u }) × (reply ≡ replies.Fixed (held u).rows)
-Keeps held u (found.First s) a b reply = (b ≡ record a { snapshots = found.Second s u }) × (reply ≡ replies.Fixed (held u).rows)
-Keeps held u (found.Second s t) a b reply = KeepsThird held s t u a b reply
-Keeps held u (found.Agreed g) a b reply = (b ≡ record a { snapshots = found.First u }) × (reply ≡ replies.Fixed (held u).rows)
-
--- ---- pieces and rows of the order
-
--- the piece of server k of the entry at a place of the order
-pub record IsShareAt (w : Widths) (k : ℕ) (order : List (Row × Seed)) (place : ℕ) (piece : Piece) : Type 0 where
-  pub entry : Row × Seed
-  pub there : slice_get order place ≡ Some entry
-  pub share : IsPiece w entry.0 entry.1 k piece
-  pub wide : HasWidths w piece
-
--- the log of server k, which has pieces of the order alone
-pub record IsServer (k : ℕ) (w : Widths) (most : ℕ) (order : List (Row × Seed)) (log : Log) : Type 0 where
-  pub number : log.server ≡ k
-  pub widths : log.widths ≡ w
-  pub capacity : log.capacity ≡ most
-  pub shares : (place : ℕ) (piece : Piece) → piece_at log.slots place ≡ Some piece → IsShareAt w k order place piece
-
--- the pieces of an open draw are those of its place
-abbrev pub HoldsShares : Widths → List (Row × Seed) → OpenDraw → Type 0
-HoldsShares w order draw = (k : ℕ) (piece : Piece) → k < 3 → piece_for k draw ≡ Some piece → IsShareAt w k order draw.place piece
-
--- a shelf keeps the first n rows of the order, as server k has them
-pub record KeepsFirst (w : Widths) (k : ℕ) (order : List (Row × Seed)) (n : ℕ) (h : Held) : Type 0 where
-  pub few : n ≤ length order
-  pub keeps : KeepsRows w k (take n order) h
-
-pub record AgreeOn (w : Widths) (order : List (Row × Seed)) (n : ℕ) (h0 h1 h2 : Held) : Type 0 where
-  pub zero : KeepsFirst w 0 order n h0
-  pub one : KeepsFirst w 1 order n h1
-  pub two : KeepsFirst w 2 order n h2
-
--- each snapshot of an actor keeps the first rows of the order; those of an agreement keep the same
-abbrev pub AreFirst : (Snapshot → Held) → Widths → List (Row × Seed) → Snapshots → Type 0
-AreFirst held w order found.Unfixed = ⊤
-AreFirst held w order (found.First s) = KeepsFirst w 0 order (held s).rows (held s)
-AreFirst held w order (found.Second s t) = KeepsFirst w 0 order (held s).rows (held s) × KeepsFirst w 1 order (held t).rows (held t)
-AreFirst held w order (found.Agreed a) = AgreeOn w order (held a.zero).rows (held a.zero) (held a.one) (held a.two)
-
-pub record IsActorOf (held : Snapshot → Held) (w : Widths) (order : List (Row × Seed)) (a : ActorState) : Type 0 where
-  pub draw : (draw : OpenDraw) → a.draw ≡ Some draw → HoldsShares w order draw
-  pub first : AreFirst held w order a.snapshots
+abbrev pub Keeps : (Snapshot → Held) → Widths → List (Row × Seed) → Snapshot → Snapshots → ActorState → ActorState → Reply → Type 0
+Keeps held w order u found.Unfixed a b reply = (b ≡ record a { snapshots = found.First u }) × (reply ≡ replies.Fixed (held u).rows)
+Keeps held w order u (found.First s) a b reply = (b ≡ record a { snapshots = found.Second s u }) × (reply ≡ replies.Fixed (held u).rows)
+Keeps held w order u (found.Second s t) a b reply = KeepsThird held w order s t u a b reply
+Keeps held w order u (found.Agreed g) a b reply = (b ≡ record a { snapshots = found.First u }) × (reply ≡ replies.Fixed (held u).rows)
 
 -- ---- the machine
 
@@ -273,8 +208,7 @@ pub record IsMachine (held : Snapshot → Held) (space : ℕ) (t : Table) : Type
   pub actors : (i : ℕ) (a : ActorState) → slice_get t.actors i ≡ Some a → IsActorOf held t.widths t.order a
   pub legal : IsLegal (core_of held t)
 
--- what an actor agreed on: at each server the first rows of the order
-pub record IsAgreement (held : Snapshot → Held) (m : Seen) (number : ℕ) (a : Agreement) : Type 0 where
-  pub agreed : rows_agreed (slice_get m.core.actors number) ≡ Some (held a.zero).rows
-  pub few : (held a.zero).rows ≤ 65536
-  pub first : AgreeOn m.widths m.core.order (held a.zero).rows (held a.zero) (held a.one) (held a.two)
+-- what an actor agreed on: first rows of the order
+pub record IsAgreedBy (m : Seen) (number : ℕ) (e : Entries) : Type 0 where
+  pub agreed : rows_agreed (slice_get m.core.actors number) ≡ Some (length e.all)
+  pub first : AreFirstRows m.widths m.core.order e

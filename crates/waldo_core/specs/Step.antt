@@ -3,14 +3,12 @@ use Rattle.std.specs.Prelude.{ℕ, zero, suc, ◌+◌, ◌&&◌, ◌||◌, Bool,
 use Rattle.list_facts.specs.Count.{has}
 use Rattle.prg_chacha.specs.declared.seed.Seed.{Seed}
 use Rattle.query_plan.specs.Query.{Suits}
-use Rattle.query_plan.specs.Seeds.{weights_of}
-use Rattle.query_plan.specs.Views.{key_from}
 use Rattle.query_plan.specs.declared.query.Query.{Query}
 use Rattle.server_rounds.specs.declared.opened.OpenedPair.{OpenedPair}
 use Rattle.table_schema.specs.declared.rows.Row.{Row}
 use Rattle.table_schema.specs.declared.widths.Widths.{Widths}
-use Rattle.weighted_check.specs.Check.{checked}
 use Rattle.weighted_check.specs.declared.Altered.{Altered as Refused}
+use Rattle.agreed_rows.specs.Answers.{judged}
 use Rattle.waldo_core.specs.Core.{Actor, Core, Fixes, Open, is_pending, journal_of, prefix, with_actor, with_journal}
 use Rattle.waldo_core.specs.Core.Fixes.{Unfixed, First, Second, Agreed}
 use Rattle.waldo_core.specs.declared.events.Event.{Event}
@@ -86,7 +84,7 @@ reply_of n (Ok total) = replies.Answered n total
 reply_of n (Err pair) = replies.Altered n pair.total pair.weighted
 
 abbrev pub answered : ℕ → Query → Seed → OpenedPair → Reply
-answered n query seed pair = reply_of n (checked pair.total pair.weighted (key_from (weights_of seed 1) query.count))
+answered n query seed pair = reply_of n (judged query seed pair)
 
 abbrev pub answer_step : Core → Fixes → Query → Seed → OpenedPair → Option (Core × Reply)
 answer_step core Unfixed query seed pair = None

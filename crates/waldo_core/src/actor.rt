@@ -1,18 +1,22 @@
 //! An actor's steps.
-ghost use Rattle.std.specs.Prelude.{◌≡◌, ◌<◌, ◌+◌, ◌^◌, IfOk, IfSome, OnErr, Some, is_some, not, ◌||◌};
+ghost use Rattle.std.specs.Prelude.{ℕ, ◌≡◌, ◌<◌, ◌≤◌, ◌+◌, ◌^◌, IfOk, IfSome, OnErr, Some, is_some, length, not, ◌||◌};
+ghost use Rattle.agreed_rows.specs.Servers.{IsServer, KeepsFirst};
 ghost use Rattle.waldo_core.specs.Core.{is_pending as pending_in};
 ghost use Rattle.waldo_core.specs.Step.{with_draw};
-ghost use Rattle.waldo_core.specs.Held.{CanPlace, Fixed, Keeps, Looks, Places, fresh_state, seen_actor, seen_draw, seen_fixes};
+ghost use Rattle.waldo_core.specs.Held.{AreFirst, CanPlace, Fixed, Keeps, Looks, Places, fresh_state, log_of, next_server_of, seen_actor, seen_draw};
 
 use crate::draw::OpenDraw;
 use crate::events::Reply;
 use crate::logs::Logs;
-use crate::snapshots::{Agreement, Snapshots};
+use crate::snapshots::Snapshots;
+use agreed_rows::Agreed;
 use prefix_log::Snapshot;
 use ring128::Memory;
 use scan_chunks::Shelf;
 use std::alloc::Global;
 use std::mem;
+use table_schema::Widths;
+use ticket_place::Sight;
 
 /// An actor: the greatest number of rows that it has seen, its open draw, and what its fixes found.
 #[derive(Drop)]
@@ -97,8 +101,19 @@ impl ActorState {
         Some(Reply::Looked { prefix })
     }
 
-    /// Fixes the next server. For want of memory nothing changes.
-    pub(crate) fn fix(&mut self, alloc: Global, logs: &mut Logs) -> Result<Reply, Memory>
+    /// Fixes the next server, where servers and fixes have the rows of the order that the sight has seen. Out of memory, it
+    /// changes nothing.
+    pub(crate) fn fix(
+        &mut self,
+        alloc: Global,
+        logs: &mut Logs,
+        widths: &Widths,
+        sight: &Sight,
+    ) -> Result<Reply, Memory>
+        requires few { length sight.now.order ≤ 65536 }
+        requires servers { (k : ℕ) → k < 3 → IsServer k widths.now (log_of logs.old k).capacity sight.now.order (log_of logs.old k) }
+        requires first { AreFirst ⟦<Snapshot as Shelf>⟧.held widths.now sight.now.order self.old.snapshots }
+        ensures first { AreFirst ⟦<Snapshot as Shelf>⟧.held widths.now sight.now.order self.new.snapshots }
         ensures logs { logs.new ≡ logs.old }
         ensures fixed { IfOk result (Fixed ⟦<Snapshot as Shelf>⟧.held logs.old self.old self.new) }
         ensures stays { OnErr result (self.new ≡ self.old) }
@@ -111,12 +126,17 @@ impl ActorState {
             return Ok(Reply::Again { server, had, floor });
         }
         let snapshot = logs.fix(alloc, server)?;
-        Ok(self.keep(snapshot))
+        Ok(self.keep(widths, sight, snapshot))
     }
 
     // Keeps a snapshot of the next server; with the third one the actor agrees on the rows that all three have.
-    fn keep(&mut self, snapshot: Snapshot) -> Reply
-        ensures { Keeps ⟦<Snapshot as Shelf>⟧.held snapshot self.old.snapshots self.old self.new result }
+    fn keep(&mut self, widths: &Widths, sight: &Sight, snapshot: Snapshot) -> Reply
+        requires few { length sight.now.order ≤ 65536 }
+        requires first { AreFirst ⟦<Snapshot as Shelf>⟧.held widths.now sight.now.order self.old.snapshots }
+        requires next { let h = ⟦<Snapshot as Shelf>⟧.held snapshot in
+            KeepsFirst widths.now (next_server_of self.old.snapshots) sight.now.order h.rows h }
+        ensures { let held = ⟦<Snapshot as Shelf>⟧.held in
+            Keeps held widths.now sight.now.order snapshot self.old.snapshots self.old self.new result }
     {
         let prefix = snapshot.rows();
         match mem::replace(&mut self.snapshots, Snapshots::Unfixed) {
@@ -129,10 +149,10 @@ impl ActorState {
                 Reply::Fixed { prefix }
             }
             Snapshots::Second(zero, one) => {
-                let agreement = Agreement::of(zero, one, snapshot);
-                let rows = agreement.rows();
+                let agreed = Agreed::of(widths, sight, zero, one, snapshot);
+                let rows = agreed.rows();
                 self.floor = rows;
-                self.snapshots = Snapshots::Agreed(agreement);
+                self.snapshots = Snapshots::Agreed(agreed);
                 Reply::Agreed { rows }
             }
         }

@@ -1,7 +1,8 @@
 //! What the definitions say together, as functions without effect.
 
+ghost use Rattle.prefix_log.specs.Journal.{PrefixIsLargest};
 ghost use Rattle.waldo_core.specs.InBulk.{RowsLead};
-ghost use Rattle.waldo_core.specs.Laws.{LegalStays, PrefixIsLargest};
+ghost use Rattle.waldo_core.specs.Laws.{LegalStays};
 
 /// The prefix of a journal is the largest number such that each place below it is there.
 pub fn prefix_is_largest()

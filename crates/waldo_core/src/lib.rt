@@ -20,13 +20,13 @@
 #![tactic(auto)]
 
 mod actor;
-mod answer;
 mod draw;
 mod events;
 pub mod laws;
 mod logs;
 mod machine;
 mod order;
+mod reply;
 mod snapshots;
 
 pub use events::{Event, Reply, StepFault};

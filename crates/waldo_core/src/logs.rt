@@ -4,9 +4,10 @@ ghost use Rattle.std.specs.Option.{ForSome};
 ghost use Rattle.table_schema.specs.Widths.{Fits, Holds, column_bits};
 ghost use Rattle.prefix_log.specs.Bulk.{TakesRows};
 ghost use Rattle.waldo_core.specs.InBulk.{IsBlank};
+ghost use Rattle.prefix_log.specs.Journal.{prefix as prefix_in};
 ghost use Rattle.prefix_log.specs.Logs.{IsLog, IsOwn, empty_log};
-ghost use Rattle.waldo_core.specs.Core.{prefix as prefix_in};
-ghost use Rattle.waldo_core.specs.Held.{IsFixOf, log_of, with_piece};
+ghost use Rattle.agreed_rows.specs.Servers.{IsFixOf};
+ghost use Rattle.waldo_core.specs.Held.{log_of, with_piece};
 
 use onehot_column::Piece;
 use prefix_log::{Entry, ServerLog, Snapshot, append_rows};

@@ -1,10 +1,10 @@
 //! The machine.
-ghost use Rattle.std.specs.Prelude.{◌≡◌, ◌≤◌, List, All, IfOk, IfErr, IfNone, IfSome, IsOk, OnErr, OnOk, false, length, map, slice_get, Err, None, Ok};
+ghost use Rattle.std.specs.Prelude.{◌≡◌, ◌≤◌, List, All, IfOk, IfErr, IfNone, IfSome, OnErr, OnOk, false, length, map, slice_get, Err, None, Ok};
 ghost use Rattle.fault_count.specs.Causes.{Rose};
 ghost use Rattle.list_facts.specs.Listed.{listed};
 ghost use Rattle.table_schema.specs.Widths.{Fits, Holds, column_bits};
 ghost use Rattle.server_rounds.specs.declared.opened.OpenedPair.{OpenedPair};
-ghost use Rattle.wire_line.specs.Messages.{Went};
+ghost use Rattle.wire_line.specs.Messages.{IsHonest, Went};
 ghost use Rattle.wire_line.specs.declared.message.Message.{Message};
 ghost use Rattle.waldo_core.specs.Answers.{IsPlain, IsQuiet, rows_agreed};
 ghost use Rattle.waldo_core.specs.Core.{empty_core};
@@ -13,19 +13,20 @@ ghost use Rattle.waldo_core.specs.Legal.{IsLegal};
 ghost use Rattle.waldo_core.specs.Machines.{HasOpenFault, IsHeld, Stepped, new_machine};
 ghost use Rattle.waldo_core.specs.Outcomes.{Quietly, named};
 ghost use Rattle.waldo_core.specs.Step.{is_altered};
-ghost use Rattle.waldo_core.specs.Held.{IsAgreement, fresh_state};
+ghost use Rattle.waldo_core.specs.Held.{IsAgreedBy, fresh_state};
 
 use crate::actor::ActorState;
-use crate::answer::{open_pair, reply_over};
 use crate::draw::OpenDraw;
 use crate::events::{Event, Reply, StepFault};
 use crate::logs::Logs;
 use crate::order::Order;
-use crate::snapshots::{Agreement, Snapshots};
+use crate::reply::{outcome_of, reply_over};
+use crate::snapshots::Snapshots;
+use agreed_rows::Agreed;
 use onehot_column::{RowPieces, pieces};
 use prefix_log::{Entry, OpenFault, Snapshot};
 use prg_chacha::Seed;
-use query_plan::{Query, make_keys};
+use query_plan::Query;
 use ring128::Memory;
 use scan_chunks::Shelf;
 use std::alloc::Global;
@@ -132,9 +133,10 @@ impl Machine {
         Ok(())
     }
 
-    /// Does an event. An event that has no case as things stand is refused; then, and for want of memory, the machine is as
-    /// before. The first messages of an answer may have been carried when memory was lacking; other events, and one that is
-    /// refused, leave the wire as it is.
+    /// Does an event. An answer whose messages were received as they were sent is the plain one, whatever the wire did before.
+    /// `NotAllowed` comes where the event has no case as things stand, `Memory` at any time; the machine is then as before. Out of
+    /// memory, the first messages of an answer may have been carried; other events, and one that is refused, leave the wire as it
+    /// is.
     pub fn step<R: Threads + Sync, W: Wire>(
         &mut self,
         rt: &R,
@@ -145,7 +147,7 @@ impl Machine {
         requires held { IsHeld self.old.widths event }
         ensures stepped { (ms : List Message) × (pair : OpenedPair) × Went W.told W.alterations W.passes wire.old ms wire.new
             × Stepped self.old event ms pair self.new result
-            × (¬ Rose (W.alterations wire.old) (W.alterations wire.new) → IsOk result → IsPlain self.old.core event pair) }
+            × (IsHonest ms → IfOk result (λ reply. IsPlain self.old.core event pair × (is_altered reply ≡ false))) }
         ensures accepted { ¬ Rose (W.alterations wire.old) (W.alterations wire.new) → IfOk result (λ reply. is_altered reply ≡ false) }
         ensures widths { self.new.widths ≡ self.old.widths }
         ensures legal { IsLegal self.new.core }
@@ -154,11 +156,7 @@ impl Machine {
     {
         let done = self.act(rt, alloc, event, wire);
         let _ = &self.order; // a look at the machine, whose core is legal
-        match done {
-            Ok(Some(reply)) => Ok(reply),
-            Ok(None) => Err(StepFault::NotAllowed { event }),
-            Err(_) => Err(StepFault::Memory),
-        }
+        outcome_of(event, done)
     }
 
     // Does an event. None: it has no case.
@@ -172,8 +170,7 @@ impl Machine {
         requires held { IsHeld self.old.widths event }
         ensures stepped { (ms : List Message) × (pair : OpenedPair) × Went W.told W.alterations W.passes wire.old ms wire.new
             × Stepped self.old event ms pair self.new (named event result)
-            × (¬ Rose (W.alterations wire.old) (W.alterations wire.new) → IsOk (named event result) → IsPlain self.old.core event pair) }
-        ensures accepted { ¬ Rose (W.alterations wire.old) (W.alterations wire.new) → IfOk (named event result) (λ reply. is_altered reply ≡ false) }
+            × (IsHonest ms → IfOk (named event result) (λ reply. IsPlain self.old.core event pair × (is_altered reply ≡ false))) }
         ensures quiet { IsQuiet event → wire.new ≡ wire.old }
         ensures refused { result ≡ Ok None → wire.new ≡ wire.old }
     {
@@ -249,21 +246,21 @@ impl Machine {
         if i >= self.actors.len() {
             return Ok(None);
         }
-        let reply = self.actors[i].fix(alloc, &mut self.logs)?;
+        let reply = self.actors[i].fix(alloc, &mut self.logs, &self.widths, self.order.sight())?;
         Ok(Some(reply))
     }
 
     // What an actor agreed on.
-    fn agreement(&self, number: u8) -> Option<&Agreement>
+    fn agreed(&self, number: u8) -> Option<&Agreed>
         ensures none { IfNone result (rows_agreed (slice_get self.now.core.actors number) ≡ None) }
-        ensures some { IfSome result (λ a. IsAgreement ⟦<Snapshot as Shelf>⟧.held self.now number a.now) }
+        ensures some { IfSome result (λ a. IsAgreedBy self.now number a.now) }
     {
         let i = number as usize;
         if i >= self.actors.len() {
             return None;
         }
         match &self.actors[i].snapshots {
-            Snapshots::Agreed(agreement) => Some(agreement),
+            Snapshots::Agreed(agreed) => Some(agreed),
             _ => None,
         }
     }
@@ -281,20 +278,17 @@ impl Machine {
         ensures stepped { let event = Event.Answer number query.now seed.now in
             (ms : List Message) × (pair : OpenedPair) × Went W.told W.alterations W.passes wire.old ms wire.new
             × Stepped self.now event ms pair self.now (named event result)
-            × (¬ Rose (W.alterations wire.old) (W.alterations wire.new) → IsOk (named event result) → IsPlain self.now.core event pair) }
-        ensures accepted { ¬ Rose (W.alterations wire.old) (W.alterations wire.new)
-            → IfOk (named (Event.Answer number query.now seed.now) result) (λ reply. is_altered reply ≡ false) }
+            × (IsHonest ms → IfOk (named event result) (λ reply. IsPlain self.now.core event pair × (is_altered reply ≡ false))) }
         ensures refused { result ≡ Ok None → wire.new ≡ wire.old }
     {
-        let Some(agreement) = self.agreement(number) else {
+        let Some(agreed) = self.agreed(number) else {
             return Ok(None);
         };
         if !query.suits(&self.widths) {
             return Ok(None);
         }
-        let keys = make_keys(alloc, query, &self.widths, seed)?;
-        let pair = open_pair(rt, alloc, agreement, self.workers, &keys, wire)?;
-        Ok(Some(reply_over(agreement.rows(), pair, &keys)))
+        let answered = agreed_rows::answer(rt, alloc, agreed, query, seed, wire, self.workers);
+        reply_over(agreed.rows(), answered)
     }
 }
 

@@ -38,6 +38,13 @@ impl Order {
         Ok(Order { book, sight })
     }
 
+    /// The sight of the book.
+    pub(crate) fn sight(&self) -> &Sight
+        ensures { result.now.order ≡ self.now.all }
+    {
+        &self.sight
+    }
+
     /// Adds a row and its seed at the end, and answers their place; None where there are as many draws as the order takes. It takes
     /// no memory.
     pub(crate) fn add(&mut self, row: Row, seed: Seed) -> Option<u64>

@@ -1,13 +1,11 @@
-use Rattle.std.proofs.Common.{◌∙◌, refl, sym, ap, subst, [], length}
-use Rattle.prg_chacha.specs.declared.seed.Seed.{Seed}
-use Rattle.query_plan.specs.KeyMessages.{Asked}
+use Rattle.std.proofs.Common.{refl, sym, subst, []}
 use Rattle.query_plan.specs.Query.{Suits}
 use Rattle.wire_line.specs.Carried.{went_none}
 use Rattle.server_rounds.specs.declared.opened.OpenedPair.{OpenedPair}
 use Rattle.transcript.specs.Transcript.{IsPart}
 use Rattle.agreed_rows.specs.Agreed.{Entries}
-use Rattle.agreed_rows.specs.Answers.{Opens, setup_over, plain_total}
-use Rattle.agreed_rows.proofs.Answering.{Asking, agreed_long, refused_as, asked_judged, asked_opens, asked_part, asked_kept, asked_right}
+use Rattle.agreed_rows.specs.Answers.{Answers, IsPlainAnswer, setup_over}
+use Rattle.agreed_rows.proofs.Answering.{Asking, asked_answers, asked_opens, asked_part, asked_plain}
 use Rattle.agreed_rows.proofs.OverRows.{no_part}
 use Rattle.agreed_rows.proofs.query.answer.Goals as goal
 
@@ -15,7 +13,7 @@ nothing : OpenedPair
 nothing = record { total = 0; weighted = 0 }
 
 pub returns-in_default-clause-answers : goal.returns-in_default-clause-answers
-returns-in_default-clause-answers g c = ([], nothing, went_none g.W.Wire.told g.W.Wire.alterations g.W.Wire.passes _ _ refl refl (g.met.W.Wire.none_passes _), no_part _)
+returns-in_default-clause-answers g c = ([], nothing, went_none g.W.Wire.told g.W.Wire.alterations g.W.Wire.passes _ _ refl refl (g.met.W.Wire.none_passes _), no_part _, λ honest. tt)
 
 pub returns-in-Err-clause-answers : goal.returns-in-Err-clause-answers
 returns-in-Err-clause-answers g c =
@@ -28,12 +26,18 @@ returns-in-Err-clause-answers g c =
       suits = subst (λ (v : Entries). Suits v.widths.columns v.widths.bits c.args.query.now) (sym c.agreed.view_is) c.requires.suits;
       columns = c.in-Err.ensures.columns;
     } in
-    let h = c.in-Err.ensures.messages in
-    (h.0, nothing, h.1, subst (λ (v : Entries). IsPart (setup_over v c.args.query.now c.args.seed.now) h.0) c.agreed.view_is (asked_part _ _ _ _ _ _ _ _ _ asking h.0 h.2))
+    let h = c.in-Err.ensures.messages in (
+      h.0,
+      nothing,
+      h.1,
+      subst (λ (v : Entries). IsPart (setup_over v c.args.query.now c.args.seed.now) h.0) c.agreed.view_is (asked_part _ _ _ _ _ _ _ _ _ asking h.0 h.2),
+      λ honest. tt,
+    )
 
-pub returns-in-Ok-check-clause-answers : goal.returns-in-Ok-check-clause-answers
-returns-in-Ok-check-clause-answers g c =
+pub returns-clause-answers : goal.returns-clause-answers
+returns-clause-answers g c =
     let a = c.agreed.inside in
+    let q = c.args.query.now in
     let asking : Asking a.widths _ _ _ _ _ c.args.query.now c.args.seed.now c.in-Ok.keys = record {
       agreed = c.agreed.invariant;
       made = c.in-Ok.ensures.made;
@@ -47,49 +51,16 @@ returns-in-Ok-check-clause-answers g c =
       h.0,
       pair,
       h.1,
-      (
-        subst (λ (v : Entries). Opens v c.args.query.now c.args.seed.now h.0 pair) c.agreed.view_is opens,
-        asked_judged _ _ _ _ _ _ _ _ _ asking pair _ _ c.key.ensures.key c.in-Ok-check.ensures.answer,
-        c.rows.ensures ∙ sym (agreed_long _ _ _ _ _ _ c.agreed.invariant) ∙ ap (λ (v : Entries). length v.all) c.agreed.view_is,
-      ),
+      subst (λ (v : Entries). Answers v q c.args.seed.now h.0 pair c.judge.result) c.agreed.view_is
+          (asked_answers _ _ _ _ _ _ _ _ _ asking h.0 pair c.key.result c.rows.result c.judge.result opens c.key.ensures.key c.rows.ensures c.judge.ensures),
+      λ honest. subst (λ (v : Entries). IsPlainAnswer v q c.judge.result) c.agreed.view_is
+          (asked_plain _ _ _ _ _ _ _ _ _ asking h.0 pair c.key.result c.rows.result c.judge.result opens c.key.ensures.key c.judge.ensures honest),
     )
-
-pub returns-in-Ok-check-clause-plain : goal.returns-in-Ok-check-clause-plain
-returns-in-Ok-check-clause-plain g c still =
-    let a = c.agreed.inside in
-    let asking : Asking a.widths _ _ _ _ _ c.args.query.now c.args.seed.now c.in-Ok.keys = record {
-      agreed = c.agreed.invariant;
-      made = c.in-Ok.ensures.made;
-      keys_of = c.in-Ok.ensures.add_up;
-      suits = subst (λ (v : Entries). Suits v.widths.columns v.widths.bits c.args.query.now) (sym c.agreed.view_is) c.requires.suits;
-      columns = c.in-Ok-open_pair.ensures.columns;
-    } in
-    let h = c.in-Ok-open_pair.ensures.messages in
-    let pair = c.in-Ok-open_pair.pair in
-    let opens = asked_opens _ _ _ _ _ _ _ _ _ asking h.0 pair h.3.0 h.3.1 h.3.2 in
-    asked_right _ _ _ _ _ _ _ _ _ asking h.0 pair _ opens (h.1.honest still)
-    (asked_judged _ _ _ _ _ _ _ _ _ asking pair _ _ c.key.ensures.key c.in-Ok-check.ensures.answer)
-    ∙ ap (λ (v : Entries). plain_total v c.args.query.now) c.agreed.view_is
-
-pub returns-clause-answers : goal.returns-clause-answers
-returns-clause-answers g c =
-    let a = c.agreed.inside in
-    let asking : Asking a.widths _ _ _ _ _ c.args.query.now c.args.seed.now c.in-Ok.keys = record {
-      agreed = c.agreed.invariant;
-      made = c.in-Ok.ensures.made;
-      keys_of = c.in-Ok.ensures.add_up;
-      suits = subst (λ (v : Entries). Suits v.widths.columns v.widths.bits c.args.query.now) (sym c.agreed.view_is) c.requires.suits;
-      columns = c.in-Ok-open_pair.ensures.columns;
-    } in
-    let h = c.in-Ok-open_pair.ensures.messages in
-    let pair = c.in-Ok-open_pair.pair in
-    let opens = asked_opens _ _ _ _ _ _ _ _ _ asking h.0 pair h.3.0 h.3.1 h.3.2 in
-    let says = asked_judged _ _ _ _ _ _ _ _ _ asking pair _ _ c.key.ensures.key c.in-Err-check.ensures.answer in
-    (h.0, pair, h.1, (subst (λ (v : Entries). Opens v c.args.query.now c.args.seed.now h.0 pair) c.agreed.view_is opens, says, refused_as c.args.query.now c.args.seed.now pair _ says))
 
 pub returns-clause-plain : goal.returns-clause-plain
 returns-clause-plain g c still =
     let a = c.agreed.inside in
+    let q = c.args.query.now in
     let asking : Asking a.widths _ _ _ _ _ c.args.query.now c.args.seed.now c.in-Ok.keys = record {
       agreed = c.agreed.invariant;
       made = c.in-Ok.ensures.made;
@@ -100,4 +71,5 @@ returns-clause-plain g c still =
     let h = c.in-Ok-open_pair.ensures.messages in
     let pair = c.in-Ok-open_pair.pair in
     let opens = asked_opens _ _ _ _ _ _ _ _ _ asking h.0 pair h.3.0 h.3.1 h.3.2 in
-    absurd (asked_kept _ _ _ _ _ _ _ _ _ asking h.0 pair _ opens (h.1.honest still) (asked_judged _ _ _ _ _ _ _ _ _ asking pair _ _ c.key.ensures.key c.in-Err-check.ensures.answer))
+    subst (λ (v : Entries). IsPlainAnswer v q c.judge.result) c.agreed.view_is
+    (asked_plain _ _ _ _ _ _ _ _ _ asking h.0 pair c.key.result c.rows.result c.judge.result opens c.key.ensures.key c.judge.ensures (h.1.honest still))

@@ -5,5 +5,5 @@ use Rattle.waldo_core.proofs.actor.ActorState.keep.Goals as goal
 
 pub returns : goal.returns
 returns c =
-    keeps_third (held-value).it c.args.snapshot c.args.self.now.snapshots c.args.self.now _ _ c.in-Second.zero c.in-Second.one c.of-agreement.result c.rows-rows.result
-    (sym c.replace.ensures.value ∙ c.in-Second.is) c.of-agreement.ensures c.rows-rows.ensures refl refl
+    keeps_third (held-value).it c.args.widths.now c.args.sight.now.order c.args.snapshot c.args.self.now.snapshots c.args.self.now _ _ c.in-Second.zero c.in-Second.one c.of-agreed.result
+    c.rows-rows.result (sym c.replace.ensures.value ∙ c.in-Second.is) c.requires.first c.requires.next c.of-agreed.ensures c.rows-rows.ensures.rows refl refl

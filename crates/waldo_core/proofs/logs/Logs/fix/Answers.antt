@@ -1,5 +1,6 @@
 use Rattle.std.proofs.Common.{◌≤◌, arith}
-use Rattle.waldo_core.proofs.Journals.{both_ok, fix_of, log_two}
+use Rattle.agreed_rows.proofs.Shares.{fix_of}
+use Rattle.waldo_core.proofs.Journals.{both_ok, log_two}
 use Rattle.waldo_core.proofs.logs.Logs.fix.Goals as goal
 
 pub returns-in-0-clause-fixed : goal.returns-in-0-clause-fixed

@@ -1,6 +1,6 @@
 use Rattle.std.proofs.Common.{◌≤◌, sym, arith}
 use Rattle.waldo_core.proofs.Journals.{log_two}
-use Rattle.waldo_core.proofs.Prefixes.{prefix_is}
+use Rattle.prefix_log.proofs.Prefixes.{prefix_is}
 use Rattle.waldo_core.proofs.logs.Logs.prefix.Goals as goal
 
 pub returns-in-0-clause-value : goal.returns-in-0-clause-value

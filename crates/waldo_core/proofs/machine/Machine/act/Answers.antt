@@ -1,8 +1,8 @@
 use Rattle.std.proofs.Common.{refl, [], Ok}
 use Rattle.wire_line.specs.Carried.{went_none}
 use Rattle.waldo_core.specs.declared.events.Event.TheVariants as events
-use Rattle.waldo_core.proofs.Accepted.{quiet_accepted}
-use Rattle.waldo_core.proofs.Acts.{nothing, quiet_plain, quiet_stepped}
+use Rattle.waldo_core.proofs.Accepted.{quiet_plain}
+use Rattle.waldo_core.proofs.Acts.{nothing, quiet_stepped}
 use Rattle.waldo_core.proofs.machine.Machine.act.Goals as goal
 
 pub returns-in-Draw-clause-stepped : goal.returns-in-Draw-clause-stepped
@@ -12,12 +12,8 @@ returns-in-Draw-clause-stepped g c =
       nothing,
       went_none g.W.Wire.told g.W.Wire.alterations g.W.Wire.passes _ _ refl refl (g.met.W.Wire.none_passes _),
       quiet_stepped c.args.self.now c.args.event event c.draw.new.self c.draw.result c.in-Draw.is c.draw.ensures,
-      λ still ok. quiet_plain c.args.self.now.core c.args.event event c.in-Draw.is tt,
+      λ honest. quiet_plain c.args.self.now c.args.event event c.draw.new.self c.draw.result c.in-Draw.is tt tt c.draw.ensures,
     )
-
-pub returns-in-Draw-clause-accepted : goal.returns-in-Draw-clause-accepted
-returns-in-Draw-clause-accepted g c still =
-    quiet_accepted c.args.self.now c.args.event (events.Draw c.in-Draw.actor c.in-Draw.row c.in-Draw.seed) c.draw.new.self c.draw.result c.in-Draw.is tt c.draw.ensures
 
 pub returns-in-Place-clause-stepped : goal.returns-in-Place-clause-stepped
 returns-in-Place-clause-stepped g c =
@@ -26,12 +22,8 @@ returns-in-Place-clause-stepped g c =
       nothing,
       went_none g.W.Wire.told g.W.Wire.alterations g.W.Wire.passes _ _ refl refl (g.met.W.Wire.none_passes _),
       quiet_stepped c.args.self.now c.args.event event c.place.new.self (Ok c.place.result) c.in-Place.is c.place.ensures,
-      λ still ok. quiet_plain c.args.self.now.core c.args.event event c.in-Place.is tt,
+      λ honest. quiet_plain c.args.self.now c.args.event event c.place.new.self (Ok c.place.result) c.in-Place.is tt tt c.place.ensures,
     )
-
-pub returns-in-Place-clause-accepted : goal.returns-in-Place-clause-accepted
-returns-in-Place-clause-accepted g c still =
-    quiet_accepted c.args.self.now c.args.event (events.Place c.in-Place.actor c.in-Place.server) c.place.new.self (Ok c.place.result) c.in-Place.is tt c.place.ensures
 
 pub returns-in-Look-clause-stepped : goal.returns-in-Look-clause-stepped
 returns-in-Look-clause-stepped g c =
@@ -40,12 +32,8 @@ returns-in-Look-clause-stepped g c =
       nothing,
       went_none g.W.Wire.told g.W.Wire.alterations g.W.Wire.passes _ _ refl refl (g.met.W.Wire.none_passes _),
       quiet_stepped c.args.self.now c.args.event event c.look.new.self (Ok c.look.result) c.in-Look.is c.look.ensures,
-      λ still ok. quiet_plain c.args.self.now.core c.args.event event c.in-Look.is tt,
+      λ honest. quiet_plain c.args.self.now c.args.event event c.look.new.self (Ok c.look.result) c.in-Look.is tt tt c.look.ensures,
     )
-
-pub returns-in-Look-clause-accepted : goal.returns-in-Look-clause-accepted
-returns-in-Look-clause-accepted g c still =
-    quiet_accepted c.args.self.now c.args.event (events.Look c.in-Look.actor c.in-Look.server) c.look.new.self (Ok c.look.result) c.in-Look.is tt c.look.ensures
 
 pub returns-in-Fix-clause-stepped : goal.returns-in-Fix-clause-stepped
 returns-in-Fix-clause-stepped g c =
@@ -54,9 +42,5 @@ returns-in-Fix-clause-stepped g c =
       nothing,
       went_none g.W.Wire.told g.W.Wire.alterations g.W.Wire.passes _ _ refl refl (g.met.W.Wire.none_passes _),
       quiet_stepped c.args.self.now c.args.event event c.fix.new.self c.fix.result c.in-Fix.is c.fix.ensures,
-      λ still ok. quiet_plain c.args.self.now.core c.args.event event c.in-Fix.is tt,
+      λ honest. quiet_plain c.args.self.now c.args.event event c.fix.new.self c.fix.result c.in-Fix.is tt tt c.fix.ensures,
     )
-
-pub returns-in-Fix-clause-accepted : goal.returns-in-Fix-clause-accepted
-returns-in-Fix-clause-accepted g c still =
-    quiet_accepted c.args.self.now c.args.event (events.Fix c.in-Fix.actor) c.fix.new.self c.fix.result c.in-Fix.is tt c.fix.ensures
