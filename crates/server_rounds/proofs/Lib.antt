@@ -5,3 +5,5 @@ pub mod Parts
 pub mod Tables
 pub mod Runs
 pub mod Both
+pub mod Adding
+pub mod Visiting

@@ -1,5 +1,5 @@
 -- What one server sends.
-use Rattle.std.proofs.Common.{◌≡◌, ℕ, ◌+◌, ◌^◌, ◌<◌, List, [], ◌∷◌, ◌++◌, length, take, drop, sym, ap, ◌∙◌, arith}
+use Rattle.std.proofs.Common.{◌≡◌, ℕ, zero, suc, ◌+◌, ◌^◌, ◌<◌, List, [], ◌∷◌, ◌++◌, length, take, drop, sym, ap, ◌∙◌, arith}
 use Rattle.std.proofs.Math.Seq.{take-append_seam}
 use Rattle.list_facts.specs.Listed.{listed}
 use Rattle.list_facts.proofs.Listed.{length-listed}
@@ -12,8 +12,10 @@ use Rattle.scan_chunks.specs.Scan.{row_number}
 use Rattle.onehot_column.specs.Code.{width_of}
 use Rattle.query_plan.specs.Views.{View}
 use Rattle.transcript.specs.Setup.{Sizes, count_of, column_of}
-use Rattle.transcript.specs.Steps.{bits, counter_of}
-use Rattle.transcript.specs.Formulas.{bits_words}
+use Rattle.transcript.specs.Steps.{bits, product, counter_of}
+use Rattle.transcript.specs.Formulas.{bits_words, product_words}
+use Rattle.share_product.specs.Product.{local_rows_of}
+use Rattle.server_rounds.specs.Groups.{Pairs, AreLong, first_of}
 
 pub total_of-below : (xs : List ℕ) → total_of xs < 2 ^ 128
 total_of-below [] = omega arith
@@ -45,3 +47,15 @@ pub bits_are_words : (z : Sizes) (run : ℕ) (view : View) (pieces : Pieces) (j 
     → sums numbers (parts_of own next start (length numbers)) ≡ bits_words z run view pieces j
 bits_are_words z run view pieces j numbers zeros ones own next start column e0 e1 e2 e3 e4 e5 e =
     with_zeros z.rows _ own next start numbers e ∙ rw (e1, e2, e3, e4, e5, e0)
+
+pub product_is : (z : Sizes) (run : ℕ) (view view' : View) (j start : ℕ) (own next : Seed) (words a a' b b' c c' d d' : List ℕ) → words ≡ local_rows_of a a' b b' own next start
+    → a ≡ c → a' ≡ c' → b ≡ d → b' ≡ d' → own ≡ view.own → next ≡ view.next → view ≡ view' → start ≡ counter_of (count_of z) run (product j)
+    → words ≡ product_words z run view' j c c' d d'
+product_is z run view view' j start own next words a a' b b' c c' d d' e e0 e1 e2 e3 e4 e5 e6 e7 =
+    e ∙ rw (e0, e1, e2, e3, e4, e5, e6, e7)
+
+-- a pair a row at each server
+pub held_long : (n : ℕ) (pairs : Pairs) (k : ℕ) → k < 3 → AreLong n pairs → length (first_of pairs k) ≡ n
+held_long n pairs zero h long = long.zero_first
+held_long n pairs (suc zero) h long = long.one_first
+held_long n pairs (suc (suc k)) h long = long.two_first

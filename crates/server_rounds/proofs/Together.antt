@@ -138,3 +138,7 @@ cells_together held widths rows xs column b are shelves =
 -- rows that were counted in a list that is lent
 pub counted : {S : Type 0} (held : S → Held) (xs lent : List S) (n : ℕ) → n ≡ total (λ s. (held s).rows) lent → lent ≡ xs → n ≡ total (λ (h : Held). h.rows) (map held xs)
 counted held xs lent n e same = e ∙ ap (total (λ s. (held s).rows)) same ∙ sym (total-map (λ (h : Held). h.rows) held xs)
+
+-- the lists of the shelves
+pub lists_held : {S : Type 0} (held : S → Held) (f : Held → List ℕ) (lent xs : List S) → lent ≡ xs → flat_map (λ s. f (held s)) lent ≡ flat_map f (map held xs)
+lists_held held f lent xs same = ap (flat_map (λ s. f (held s))) same ∙ flat_map-held held f xs

@@ -1,12 +1,18 @@
 -- What a server's part of a step needs and gives, each in one fact.
-use Rattle.std.specs.Prelude.{ℕ, ◌≡◌, ◌<◌, List, length, map, Result, IfOk}
+use Rattle.std.specs.Prelude.{ℕ, ◌≡◌, ◌<◌, List, [], ◌∷◌, length, map, Result, Ok, IfOk}
 use Rattle.ring128.specs.declared.memory.Memory.{Memory}
 use Rattle.scan_chunks.specs.Shelf.{Held}
+use Rattle.scan_chunks.specs.declared.visit.Visit.{Visit}
 use Rattle.query_plan.specs.KeyMessages.{KeysRead, view_from}
-use Rattle.transcript.specs.Setup.{Sizes, count_of}
-use Rattle.transcript.specs.Formulas.{bits_words}
+use Rattle.query_plan.specs.Views.{View}
+use Rattle.transcript.specs.Setup.{Sizes, column_of, count_of}
+use Rattle.transcript.specs.Formulas.{bits_words, opening_words}
+use Rattle.server_rounds.specs.declared.carry.Trio.{Trio}
+use Rattle.server_rounds.specs.Groups.{Pairs, AreLong, first_of, second_of}
 use Rattle.server_rounds.specs.Plans.{HasTables}
+use Rattle.server_rounds.specs.Rounds.{products_of}
 use Rattle.server_rounds.specs.Shelves.{AreShelves, pieces_of}
+use Rattle.server_rounds.specs.Visits.{AreVisited, opened_columns}
 
 -- a predicate of a run, keys with its tables, and the server's shelves
 pub record CanScan {S : Type 0} (held : S → Held) (z : Sizes) (keys : KeysRead) (run j : ℕ) (shelves : List S) : Type 0 where
@@ -16,7 +22,39 @@ pub record CanScan {S : Type 0} (held : S → Held) (z : Sizes) (keys : KeysRead
   pub rows : AreShelves z.widths z.rows (map held shelves)
 
 -- the shelves before and after, and the words of the bits
-pub record GivesBits {S : Type 0} (held : S → Held) (z : Sizes) (keys : KeysRead) (run j : ℕ) (old new : List S) (result : Result (List ℕ) Memory) : Type 0 where
+pub record GivesBits {S : Type 0} (held : S → Held) (visited : S → List Visit) (z : Sizes) (keys : KeysRead) (run j : ℕ) (old new : List S) (result : Result (List ℕ) Memory) : Type 0 where
   pub same : map held new ≡ map held old
   pub long : IfOk result (λ w. length w ≡ z.rows)
   pub words : IfOk result (λ w. w ≡ bits_words z run (view_from keys) (pieces_of (map held old)) j)
+  pub visits : AreVisited held visited (column_of z j ∷ []) old new result
+
+-- a predicate of a run, and a pair a row of each factor
+pub record CanMultiply (z : Sizes) (run j : ℕ) (chain bits : Pairs) : Type 0 where
+  pub one_of_two : run < 2
+  pub there : j < count_of z
+  pub chain_long : AreLong z.rows chain
+  pub bits_long : AreLong z.rows bits
+
+-- the words of a server's part of a product
+pub record GivesProduct (z : Sizes) (run : ℕ) (views : ℕ → View) (j : ℕ) (chain bits : Pairs) (server : ℕ) (result : Result (List ℕ) Memory) : Type 0 where
+  pub long : IfOk result (λ w. length w ≡ z.rows)
+  pub words : IfOk result (λ w. w ≡ products_of z run views j chain bits server)
+
+-- a run, a pair a row, and the server's shelves
+pub record CanOpen {S : Type 0} (held : S → Held) (z : Sizes) (run : ℕ) (chain : Pairs) (shelves : List S) : Type 0 where
+  pub one_of_two : run < 2
+  pub chain_long : AreLong z.rows chain
+  pub rows : AreShelves z.widths z.rows (map held shelves)
+
+-- the shelves before and after, and the word of the opening
+pub record GivesOpening {S : Type 0} (held : S → Held) (visited : S → List Visit) (z : Sizes) (run : ℕ) (views : ℕ → View) (chain : Pairs) (server : ℕ) (old new : List S) (result : Result (List ℕ) Memory) : Type 0 where
+  pub same : map held new ≡ map held old
+  pub long : IfOk result (λ w. length w ≡ 1)
+  pub words : IfOk result (λ w. w ≡ opening_words z run (views server) (pieces_of (map held old)) (first_of chain server) (second_of chain server))
+  pub visits : AreVisited held visited (opened_columns z.shape.aggregate z.widths.columns) old new result
+
+-- the words of three servers, each of which had memory
+pub record AreAll (zero one two : Result (List ℕ) Memory) (words : Trio) : Type 0 where
+  pub at0 : zero ≡ Ok words.zero
+  pub at1 : one ≡ Ok words.one
+  pub at2 : two ≡ Ok words.two

@@ -4,3 +4,4 @@ pub mod Rounds
 pub mod Shelves
 pub mod Plans
 pub mod Runs
+pub mod Visits

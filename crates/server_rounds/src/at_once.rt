@@ -2,10 +2,11 @@
 ghost use denote.Param.Send.{IsSend, IsSync};
 ghost use Rattle.std.specs.Prelude.{◌≡◌, ◌<◌, ◌≤◌, map, length, IfOk};
 ghost use Rattle.transcript.specs.Setup.{count_of};
-ghost use Rattle.server_rounds.specs.AtOnce.{CanScan, GivesBits};
-ghost use Rattle.server_rounds.specs.Plans.{HasTables, HaveTables};
+ghost use Rattle.server_rounds.specs.AtOnce.{AreAll, CanMultiply, CanOpen, CanScan, GivesBits, GivesOpening, GivesProduct};
+ghost use Rattle.server_rounds.specs.Plans.{HasTables, HaveTables, views_of};
 ghost use Rattle.server_rounds.specs.Shelves.{AreShelves, pieces_of};
 
+use crate::carry::Trio;
 use crate::held::Held;
 use crate::keys::ThreeKeys;
 use crate::part::{bits_part, opening_part, product_part};
@@ -53,9 +54,9 @@ pub(crate) fn bits_at_once<R: Threads + Sync, S: Shelf + Send>(
     requires zero { CanScan S.held plan.now keys.now.zero run j zero.old.items }
     requires one { CanScan S.held plan.now keys.now.one run j one.old.items }
     requires two { CanScan S.held plan.now keys.now.two run j two.old.items }
-    ensures zero { GivesBits S.held plan.now keys.now.zero run j zero.old.items zero.new.items result.0 }
-    ensures one { GivesBits S.held plan.now keys.now.one run j one.old.items one.new.items result.1.0 }
-    ensures two { GivesBits S.held plan.now keys.now.two run j two.old.items two.new.items result.1.1 }
+    ensures zero { GivesBits S.held S.visited plan.now keys.now.zero run j zero.old.items zero.new.items result.0 }
+    ensures one { GivesBits S.held S.visited plan.now keys.now.one run j one.old.items one.new.items result.1.0 }
+    ensures two { GivesBits S.held S.visited plan.now keys.now.two run j two.old.items two.new.items result.1.1 }
 {
     if zero.len() < 2 {
         let first = bits_part(rt, alloc, plan, &keys.zero, run, j, zero);
@@ -66,15 +67,112 @@ pub(crate) fn bits_at_once<R: Threads + Sync, S: Shelf + Send>(
     let (k0, k1, k2) = (&keys.zero, &keys.one, &keys.two);
     let mut first = || -> Result<Words, Memory>
         requires { IsSync R.row × IsSend S.row × CanScan S.held plan.now k0.now run j zero.now.items }
-        ensures { GivesBits S.held plan.entry.now k0.entry.now run j zero.entry.now.items zero.exit.now.items result }
+        ensures { GivesBits S.held S.visited plan.entry.now k0.entry.now run j zero.entry.now.items zero.exit.now.items result }
     { bits_part(rt, alloc, plan, k0, run, j, zero) };
     let mut second = || -> Result<Words, Memory>
         requires { IsSync R.row × IsSend S.row × CanScan S.held plan.now k1.now run j one.now.items }
-        ensures { GivesBits S.held plan.entry.now k1.entry.now run j one.entry.now.items one.exit.now.items result }
+        ensures { GivesBits S.held S.visited plan.entry.now k1.entry.now run j one.entry.now.items one.exit.now.items result }
     { bits_part(rt, alloc, plan, k1, run, j, one) };
     let mut third = || -> Result<Words, Memory>
         requires { IsSync R.row × IsSend S.row × CanScan S.held plan.now k2.now run j two.now.items }
-        ensures { GivesBits S.held plan.entry.now k2.entry.now run j two.entry.now.items two.exit.now.items result }
+        ensures { GivesBits S.held S.visited plan.entry.now k2.entry.now run j two.entry.now.items two.exit.now.items result }
     { bits_part(rt, alloc, plan, k2, run, j, two) };
     join_three(rt, &mut first, &mut second, &mut third)
+}
+
+/// The words of the servers in product j, side by side where this is wanted, else one after another.
+pub(crate) fn products_at_once<R: Threads + Sync>(
+    rt: &R,
+    alloc: Global,
+    plan: &Plan,
+    keys: &ThreeKeys,
+    chain: &Held,
+    bits: &Held,
+    side_by_side: bool,
+    run: u8,
+    j: u8,
+) -> (
+    Result<Words, Memory>,
+    (Result<Words, Memory>, Result<Words, Memory>),
+)
+    requires { CanMultiply plan.now run j chain.now bits.now }
+    ensures zero { GivesProduct plan.now run (views_of keys.now) j chain.now bits.now 0 result.0 }
+    ensures one { GivesProduct plan.now run (views_of keys.now) j chain.now bits.now 1 result.1.0 }
+    ensures two { GivesProduct plan.now run (views_of keys.now) j chain.now bits.now 2 result.1.1 }
+{
+    let mut first = || -> Result<Words, Memory>
+        requires { CanMultiply plan.now run j chain.now bits.now }
+        ensures { GivesProduct plan.entry.now run (views_of keys.entry.now) j chain.entry.now bits.entry.now 0 result }
+    { product_part(alloc, plan, keys, chain, bits, 0, run, j) };
+    let mut second = || -> Result<Words, Memory>
+        requires { CanMultiply plan.now run j chain.now bits.now }
+        ensures { GivesProduct plan.entry.now run (views_of keys.entry.now) j chain.entry.now bits.entry.now 1 result }
+    { product_part(alloc, plan, keys, chain, bits, 1, run, j) };
+    let mut third = || -> Result<Words, Memory>
+        requires { CanMultiply plan.now run j chain.now bits.now }
+        ensures { GivesProduct plan.entry.now run (views_of keys.entry.now) j chain.entry.now bits.entry.now 2 result }
+    { product_part(alloc, plan, keys, chain, bits, 2, run, j) };
+    if side_by_side {
+        join_three(rt, &mut first, &mut second, &mut third)
+    } else {
+        (first(), (second(), third()))
+    }
+}
+
+/// The words of the servers in the opening: side by side where each has several shelves, else one after another.
+pub(crate) fn openings_at_once<R: Threads + Sync, S: Shelf + Send>(
+    rt: &R,
+    alloc: Global,
+    plan: &Plan,
+    keys: &ThreeKeys,
+    chain: &Held,
+    run: u8,
+    zero: &mut Vec<S>,
+    one: &mut Vec<S>,
+    two: &mut Vec<S>,
+) -> (
+    Result<Words, Memory>,
+    (Result<Words, Memory>, Result<Words, Memory>),
+)
+    requires zero { CanOpen S.held plan.now run chain.now zero.old.items }
+    requires one { CanOpen S.held plan.now run chain.now one.old.items }
+    requires two { CanOpen S.held plan.now run chain.now two.old.items }
+    ensures zero { GivesOpening S.held S.visited plan.now run (views_of keys.now) chain.now 0 zero.old.items zero.new.items result.0 }
+    ensures one { GivesOpening S.held S.visited plan.now run (views_of keys.now) chain.now 1 one.old.items one.new.items result.1.0 }
+    ensures two { GivesOpening S.held S.visited plan.now run (views_of keys.now) chain.now 2 two.old.items two.new.items result.1.1 }
+{
+    if zero.len() < 2 {
+        let first = opening_part(alloc, plan, keys, chain, 0, run, zero);
+        let second = opening_part(alloc, plan, keys, chain, 1, run, one);
+        let third = opening_part(alloc, plan, keys, chain, 2, run, two);
+        return (first, (second, third));
+    }
+    let mut first = || -> Result<Words, Memory>
+        requires { CanOpen S.held plan.now run chain.now zero.now.items }
+        ensures { GivesOpening S.held S.visited plan.entry.now run (views_of keys.entry.now) chain.entry.now 0 zero.entry.now.items zero.exit.now.items result }
+    { opening_part(alloc, plan, keys, chain, 0, run, zero) };
+    let mut second = || -> Result<Words, Memory>
+        requires { CanOpen S.held plan.now run chain.now one.now.items }
+        ensures { GivesOpening S.held S.visited plan.entry.now run (views_of keys.entry.now) chain.entry.now 1 one.entry.now.items one.exit.now.items result }
+    { opening_part(alloc, plan, keys, chain, 1, run, one) };
+    let mut third = || -> Result<Words, Memory>
+        requires { CanOpen S.held plan.now run chain.now two.now.items }
+        ensures { GivesOpening S.held S.visited plan.entry.now run (views_of keys.entry.now) chain.entry.now 2 two.entry.now.items two.exit.now.items result }
+    { opening_part(alloc, plan, keys, chain, 2, run, two) };
+    join_three(rt, &mut first, &mut second, &mut third)
+}
+
+/// The words of the three servers, where each had memory.
+pub(crate) fn all_three(
+    zero: Result<Words, Memory>,
+    others: (Result<Words, Memory>, Result<Words, Memory>),
+) -> Result<Trio, Memory>
+    ensures { IfOk result (AreAll zero others.0 others.1) }
+{
+    let (one, two) = others;
+    Ok(Trio {
+        zero: zero?,
+        one: one?,
+        two: two?,
+    })
 }

@@ -14,6 +14,7 @@ use crate::rounds::product_round;
 use crate::way::Way;
 use ring128::Memory;
 use std::alloc::Global;
+use std::thread::Threads;
 use wire_line::Wire;
 
 /// The state of a run in which the servers hold the bits of predicate j, from 0, and the product of the bits of those before
@@ -25,6 +26,8 @@ pub struct Bits {
     pub(crate) j: u8,
     pub(crate) chain: Option<Held>,
     pub(crate) bits: Held,
+    // Whether each server has several shelves: their parts are then made side by side.
+    pub(crate) side_by_side: bool,
     ghost one_of_two: { run < 2 },
     ghost there: { j < count_of plan },
     ghost chain_long: { (pairs : Pairs) → chain ≡ Some pairs → AreLong plan.rows pairs },
@@ -35,8 +38,9 @@ impl Bits {
     /// The product with the bits: the servers multiply their shares row by row and send each other their words. For the first
     /// predicate it is its bits, and no message is carried. The only error is want of memory; the first of these messages may
     /// then have been carried.
-    pub fn product<W: Wire>(
+    pub fn product<R: Threads + Sync, W: Wire>(
         self,
+        rt: &R,
         alloc: Global,
         ready: &Ready,
         wire: &mut W,
@@ -55,6 +59,7 @@ impl Bits {
             j,
             chain,
             bits,
+            side_by_side,
         } = self;
         match chain {
             None => Ok(Product {
@@ -65,11 +70,13 @@ impl Bits {
             }),
             Some(earlier) => {
                 let chain = product_round(
+                    rt,
                     alloc,
                     &plan,
                     &ready.keys,
                     &earlier,
                     &bits,
+                    side_by_side,
                     wire,
                     run,
                     j,

@@ -1,8 +1,8 @@
 //! What the servers hold after they sent each other their words.
-ghost use Rattle.std.specs.Prelude.{◌≡◌, List, length, IfOk};
+ghost use Rattle.std.specs.Prelude.{◌≡◌, ◌<◌, List, length, IfOk};
 ghost use Rattle.wire_line.specs.declared.message.Message.{Message};
 ghost use Rattle.wire_line.specs.Messages.{Went};
-ghost use Rattle.server_rounds.specs.Groups.{by_server, AreLong, AreReshared, IsGroup};
+ghost use Rattle.server_rounds.specs.Groups.{by_server, first_of, second_of, AreLong, AreReshared, IsGroup};
 
 use crate::carry::{Trio, carry_three};
 use crate::way::Way;
@@ -56,6 +56,19 @@ impl Held {
         ensures second { result.now.second ≡ self.now.two.second }
     {
         &self.two
+    }
+
+    /// The pairs of server 0, 1 or 2.
+    pub fn of_server(&self, server: u8) -> &PairList
+        requires { server < 3 }
+        ensures first { result.now.first ≡ first_of self.now server }
+        ensures second { result.now.second ≡ second_of self.now server }
+    {
+        match server {
+            0 => &self.zero,
+            1 => &self.one,
+            _ => &self.two,
+        }
     }
 }
 

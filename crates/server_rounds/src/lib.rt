@@ -32,6 +32,7 @@ mod rounds;
 mod run;
 mod servers;
 mod shelves;
+mod values;
 mod way;
 
 pub use bits::Bits;

@@ -1,20 +1,24 @@
 //! What one server sends.
-ghost use Rattle.std.specs.Prelude.{◌≡◌, ◌<◌, ◌≤◌, ◌+◌, ◌^◌, map, length, IfOk};
+ghost use Rattle.std.specs.Prelude.{◌≡◌, ◌<◌, ◌≤◌, ◌+◌, ◌^◌, [], ◌∷◌, map, length, IfOk};
 ghost use Rattle.ring128.specs.Ring.{sums, total_of};
 ghost use Rattle.zero_share.specs.Zero.{parts_of};
-ghost use Rattle.transcript.specs.Setup.{count_of};
-ghost use Rattle.transcript.specs.Formulas.{bits_words, product_words, opening_share, opening_words};
+ghost use Rattle.transcript.specs.Setup.{column_of, count_of};
+ghost use Rattle.transcript.specs.Formulas.{bits_words, opening_share};
 ghost use Rattle.query_plan.specs.KeyMessages.{view_from};
-ghost use Rattle.server_rounds.specs.Plans.{HasTables};
+ghost use Rattle.server_rounds.specs.AtOnce.{CanMultiply, CanOpen, GivesOpening, GivesProduct};
+ghost use Rattle.server_rounds.specs.Plans.{HasTables, views_of};
 ghost use Rattle.server_rounds.specs.Shelves.{AreShelves, pieces_of};
+ghost use Rattle.server_rounds.specs.Visits.{AreVisited, opened_columns};
 
+use crate::held::Held;
+use crate::keys::ThreeKeys;
 use crate::plan::Plan;
-use crate::shelves::{read_values, scan_rows};
+use crate::shelves::{scan_rows, sum_values};
 use query_plan::ServerKeys;
 use replicated_share::PairList;
 use ring128::{Memory, Party, Words, add};
 use scan_chunks::{Shelf, Tables};
-use share_product::{inner, local_rows};
+use share_product::local_rows;
 use std::alloc::Global;
 use std::thread::Threads;
 use table_schema::Aggregate;
@@ -56,6 +60,7 @@ pub(crate) fn bits_part<R: Threads + Sync, S: Shelf + Send>(
     ensures held { map S.held shelves.new.items ≡ map S.held shelves.old.items }
     ensures long { IfOk result (λ w. length w ≡ plan.now.rows) }
     ensures words { IfOk result (λ w. w ≡ bits_words plan.now run (view_from keys.now) (pieces_of (map S.held shelves.old.items)) j) }
+    ensures visits { AreVisited S.held S.visited (column_of plan.now j ∷ []) shelves.old.items shelves.new.items result }
 {
     let column = plan.column(j);
     let zero = keys.table(alloc, run, j, Party::Zero)?;
@@ -67,26 +72,26 @@ pub(crate) fn bits_part<R: Threads + Sync, S: Shelf + Send>(
     Ok(with_zeros(numbers, &seeds_of(keys), start))
 }
 
-/// A server's words of product j.
+/// The words of a server in product j.
 pub(crate) fn product_part(
     alloc: Global,
     plan: &Plan,
-    keys: &ServerKeys,
-    chain: &PairList,
-    bits: &PairList,
+    keys: &ThreeKeys,
+    chain: &Held,
+    bits: &Held,
+    server: u8,
     run: u8,
     j: u8,
 ) -> Result<Words, Memory>
-    requires run { run < 2 }
-    requires j { j < count_of plan.now }
-    requires chain { length chain.now.first ≡ plan.now.rows }
-    requires bits { length bits.now.first ≡ plan.now.rows }
-    ensures long { IfOk result (λ w. length w ≡ plan.now.rows) }
-    ensures words { IfOk result (λ w. w ≡ product_words plan.now run (view_from keys.now) j chain.now.first chain.now.second bits.now.first bits.now.second) }
+    requires server { server < 3 }
+    requires factors { CanMultiply plan.now run j chain.now bits.now }
+    ensures { GivesProduct plan.now run (views_of keys.now) j chain.now bits.now server result }
 {
     let start = plan.product_counter(run, j);
     plan.rows();
-    let words = local_rows(alloc, chain, bits, &seeds_of(keys), start)?;
+    let zeros = seeds_of(keys.of_server(server));
+    let (chain, bits) = (chain.of_server(server), bits.of_server(server));
+    let words = local_rows(alloc, chain, bits, &zeros, start)?;
     Ok(words)
 }
 
@@ -102,47 +107,42 @@ fn total(words: &[u128]) -> u128
 }
 
 // A server's share of the count of the rows, or of the sum of their values.
-fn share_of<S: Shelf>(
-    alloc: Global,
-    plan: &Plan,
-    shelves: &mut Vec<S>,
-    chain: &PairList,
-) -> Result<u128, Memory>
+fn share_of<S: Shelf>(plan: &Plan, chain: &PairList, shelves: &mut Vec<S>) -> Result<u128, Memory>
     requires chain { length chain.now.first ≡ plan.now.rows }
     requires shelves { AreShelves plan.now.widths plan.now.rows (map S.held shelves.old.items) }
     ensures held { map S.held shelves.new.items ≡ map S.held shelves.old.items }
     ensures share { let pieces = pieces_of (map S.held shelves.old.items) in
         let value = plan.now.widths.columns in
         IfOk result (λ n. n ≡ opening_share plan.now.shape.aggregate chain.now.first chain.now.second (pieces.first value) (pieces.second value)) }
+    ensures visits { AreVisited S.held S.visited (opened_columns plan.now.shape.aggregate plan.now.widths.columns) shelves.old.items shelves.new.items result }
 {
     match plan.aggregate() {
         Aggregate::Count => Ok(total(chain.first.as_slice())),
         Aggregate::Sum => {
-            let values = read_values(alloc, plan, shelves)?;
-            Ok(inner(chain, &values))
+            let sum = sum_values(plan, chain, shelves)?;
+            Ok(sum)
         }
     }
 }
 
-/// A server's word of the opening.
+/// The word of a server in the opening.
 pub(crate) fn opening_part<S: Shelf>(
     alloc: Global,
     plan: &Plan,
-    keys: &ServerKeys,
-    chain: &PairList,
+    keys: &ThreeKeys,
+    chain: &Held,
+    server: u8,
     run: u8,
     shelves: &mut Vec<S>,
 ) -> Result<Words, Memory>
-    requires run { run < 2 }
-    requires chain { length chain.now.first ≡ plan.now.rows }
-    requires shelves { AreShelves plan.now.widths plan.now.rows (map S.held shelves.old.items) }
-    ensures held { map S.held shelves.new.items ≡ map S.held shelves.old.items }
-    ensures long { IfOk result (λ w. length w ≡ 1) }
-    ensures words { IfOk result (λ w. w ≡ opening_words plan.now run (view_from keys.now) (pieces_of (map S.held shelves.old.items)) chain.now.first chain.now.second) }
+    requires server { server < 3 }
+    requires rows { CanOpen S.held plan.now run chain.now shelves.old.items }
+    ensures { GivesOpening S.held S.visited plan.now run (views_of keys.now) chain.now server shelves.old.items shelves.new.items result }
 {
-    let share = share_of(alloc, plan, shelves, chain)?;
-    let start = plan.opening_counter(run);
     let mut words = Vec::with_capacity(alloc, 1)?;
-    words.push(add(share, seeds_of(keys).part(start)))?;
+    let share = share_of(plan, chain.of_server(server), shelves)?;
+    let start = plan.opening_counter(run);
+    let zero = seeds_of(keys.of_server(server)).part(start);
+    words.push_reserved(add(share, zero));
     Ok(Words::from_vec(words))
 }

@@ -77,6 +77,7 @@ impl Product {
             j: next,
             chain: Some(chain),
             bits,
+            side_by_side: shelves.zero.len() > 1,
         })
     }
 
@@ -93,8 +94,9 @@ impl Product {
     /// The opening, with what the servers read when the run began: each server sends its share of the count, or of the sum, to
     /// the client, which adds up what it received. The only error is want of memory; the first of these messages may then have
     /// been carried.
-    pub fn reveal<S: Shelf, W: Wire>(
+    pub fn reveal<R: Threads + Sync, S: Shelf + Send, W: Wire>(
         self,
+        rt: &R,
         alloc: Global,
         ready: &Ready,
         shelves: &mut Servers<S>,
@@ -119,7 +121,7 @@ impl Product {
             chain,
             ..
         } = self;
-        let total = opening_round(alloc, &plan, &ready.keys, &chain, shelves, wire, run)?;
+        let total = opening_round(rt, alloc, &plan, &ready.keys, &chain, shelves, wire, run)?;
         Ok(Opened { total })
     }
 }

@@ -167,6 +167,7 @@ impl Ready {
             j: 0,
             chain: None,
             bits,
+            side_by_side: shelves.zero.len() > 1,
         })
     }
 }

@@ -8,11 +8,10 @@ ghost use Rattle.server_rounds.specs.Plans.{HaveTables, views_of};
 ghost use Rattle.server_rounds.specs.Rounds.{IsOpened, bits_of, products_of, openings_of};
 ghost use Rattle.server_rounds.specs.Shelves.{AreShelves, pieces_of};
 
-use crate::at_once::bits_at_once;
+use crate::at_once::{all_three, bits_at_once, openings_at_once, products_at_once};
 use crate::carry::{Trio, carry_three};
 use crate::held::{Held, reshare};
 use crate::keys::ThreeKeys;
-use crate::part::{opening_part, product_part};
 use crate::plan::Plan;
 use crate::servers::Servers;
 use crate::way::Way;
@@ -49,7 +48,7 @@ pub(crate) fn bits_round<R: Threads + Sync, S: Shelf + Send, W: Wire>(
         × IsGroup Way.Around (bits_of plan.now run (views_of keys.now) pieces j) ms
         × IfOk result (λ held. AreReshared held ms) }
 {
-    let (zero, (one, two)) = bits_at_once(
+    let (zero, others) = bits_at_once(
         rt,
         alloc,
         plan,
@@ -60,20 +59,20 @@ pub(crate) fn bits_round<R: Threads + Sync, S: Shelf + Send, W: Wire>(
         &mut shelves.one,
         &mut shelves.two,
     );
-    let zero = zero?;
-    let one = one?;
-    let two = two?;
-    let held = reshare(alloc, wire, Trio { zero, one, two })?;
+    let words = all_three(zero, others)?;
+    let held = reshare(alloc, wire, words)?;
     Ok(held)
 }
 
 /// The product of the chain with the bits of predicate j, and the pairs that the servers then hold of it.
-pub(crate) fn product_round<W: Wire>(
+pub(crate) fn product_round<R: Threads + Sync, W: Wire>(
+    rt: &R,
     alloc: Global,
     plan: &Plan,
     keys: &ThreeKeys,
     chain: &Held,
     bits: &Held,
+    side_by_side: bool,
     wire: &mut W,
     run: u8,
     j: u8,
@@ -87,10 +86,9 @@ pub(crate) fn product_round<W: Wire>(
         × IsGroup Way.Around (products_of plan.now run (views_of keys.now) j chain.now bits.now) ms
         × IfOk result (λ held. AreReshared held ms) }
 {
-    let zero = product_part(alloc, plan, &keys.zero, chain.zero(), bits.zero(), run, j)?;
-    let one = product_part(alloc, plan, &keys.one, chain.one(), bits.one(), run, j)?;
-    let two = product_part(alloc, plan, &keys.two, chain.two(), bits.two(), run, j)?;
-    let held = reshare(alloc, wire, Trio { zero, one, two })?;
+    let (zero, others) = products_at_once(rt, alloc, plan, keys, chain, bits, side_by_side, run, j);
+    let words = all_three(zero, others)?;
+    let held = reshare(alloc, wire, words)?;
     Ok(held)
 }
 
@@ -109,7 +107,8 @@ fn opened<W: Wire>(wire: &mut W, words: Trio) -> Result<u128, Memory>
 }
 
 /// The openings, and the sum of the words that the client received.
-pub(crate) fn opening_round<S: Shelf, W: Wire>(
+pub(crate) fn opening_round<R: Threads + Sync, S: Shelf + Send, W: Wire>(
+    rt: &R,
     alloc: Global,
     plan: &Plan,
     keys: &ThreeKeys,
@@ -132,16 +131,18 @@ pub(crate) fn opening_round<S: Shelf, W: Wire>(
         × IsGroup Way.ToClient (openings_of plan.now run (views_of keys.now) pieces chain.now) ms
         × IfOk result (λ total. IsOpened ms total) }
 {
-    let zero = opening_part(
+    let (zero, others) = openings_at_once(
+        rt,
         alloc,
         plan,
-        &keys.zero,
-        chain.zero(),
+        keys,
+        chain,
         run,
         &mut shelves.zero,
-    )?;
-    let one = opening_part(alloc, plan, &keys.one, chain.one(), run, &mut shelves.one)?;
-    let two = opening_part(alloc, plan, &keys.two, chain.two(), run, &mut shelves.two)?;
-    let total = opened(wire, Trio { zero, one, two })?;
+        &mut shelves.one,
+        &mut shelves.two,
+    );
+    let words = all_three(zero, others)?;
+    let total = opened(wire, words)?;
     Ok(total)
 }

@@ -50,7 +50,7 @@ fn first_predicate<R: Threads + Sync, S: Shelf + Send, W: Wire>(
         × IfOk result (λ p. AreReshared p.chain ms) }
 {
     let bits = ready.bits(rt, alloc, run, shelves, wire)?;
-    let product = bits.product(alloc, ready, wire)?;
+    let product = bits.product(rt, alloc, ready, wire)?;
     Ok(product)
 }
 
@@ -81,7 +81,7 @@ fn next_predicate<R: Threads + Sync, S: Shelf + Send, W: Wire>(
         × IfOk result (λ p. AreReshared p.chain part.product_messages)) }
 {
     let bits = chain.bits(rt, alloc, ready, shelves, wire)?;
-    let product = bits.product(alloc, ready, wire)?;
+    let product = bits.product(rt, alloc, ready, wire)?;
     Ok(product)
 }
 
@@ -145,7 +145,7 @@ fn run_once<R: Threads + Sync, S: Shelf + Send, W: Wire>(
         × IfOk result (λ total. IsRun ready.now.plan (total_ending ready.now.plan) pieces run views ms 0 total) }
 {
     let product = run_products(rt, alloc, ready, run, shelves, wire)?;
-    let opened = product.reveal(alloc, ready, shelves, wire)?;
+    let opened = product.reveal(rt, alloc, ready, shelves, wire)?;
     Ok(opened.total)
 }
 

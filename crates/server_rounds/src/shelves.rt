@@ -1,13 +1,16 @@
 //! What a server does with its shelves.
-ghost use Rattle.std.specs.Prelude.{◌≡◌, ◌*◌, ◌<◌, ◌≤◌, map, length, All, IfOk};
+ghost use Rattle.std.specs.Prelude.{◌≡◌, ◌*◌, ◌<◌, ◌≤◌, [], ◌∷◌, map, length, All, IfOk};
 ghost use Rattle.list_facts.specs.Count.{total};
 ghost use Rattle.list_facts.specs.Listed.{listed};
+ghost use Rattle.share_product.specs.Product.{inner_of};
 ghost use Rattle.scan_chunks.specs.Shelf.{IsShelf};
 ghost use Rattle.scan_chunks.specs.Scan.{row_number};
 ghost use Rattle.onehot_column.specs.Code.{width_of};
 ghost use Rattle.server_rounds.specs.Shelves.{AreShelves, pieces_of};
+ghost use Rattle.server_rounds.specs.Visits.{AreVisited};
 
 use crate::plan::Plan;
+use crate::values::inner_of_values;
 use replicated_share::PairList;
 use ring128::{Memory, Words};
 use scan_chunks::{Shelf, Tables, read_column, scan_many};
@@ -55,6 +58,7 @@ pub(crate) fn scan_rows<R: Threads + Sync, S: Shelf + Send>(
     ensures numbers { let pieces = pieces_of (map S.held shelves.old.items) in
         IfOk result (λ w. w ≡ listed plan.now.rows
         (row_number tables.now.zero tables.now.one (width_of plan.now.widths column) (pieces.first column) (pieces.second column))) }
+    ensures visits { AreVisited S.held S.visited (column ∷ []) shelves.old.items shelves.new.items result }
 {
     let _rows = rows_together(plan, shelves.as_slice());
     let numbers = scan_many(rt, alloc, shelves.as_mut_slice(), column, tables)?;
@@ -89,18 +93,21 @@ pub(crate) fn read_cells<S: Shelf>(
     })
 }
 
-/// The pairs of the values of a server's rows.
-pub(crate) fn read_values<S: Shelf>(
-    alloc: Global,
+/// A server's part of the sum of the values of its rows, with a pair a row.
+pub(crate) fn sum_values<S: Shelf>(
     plan: &Plan,
+    pairs: &PairList,
     shelves: &mut Vec<S>,
-) -> Result<PairList, Memory>
-    requires { AreShelves plan.now.widths plan.now.rows (map S.held shelves.old.items) }
+) -> Result<u128, Memory>
+    requires pairs { length pairs.now.first ≡ plan.now.rows }
+    requires shelves { AreShelves plan.now.widths plan.now.rows (map S.held shelves.old.items) }
     ensures held { map S.held shelves.new.items ≡ map S.held shelves.old.items }
-    ensures first { IfOk result (λ p. p.first ≡ (pieces_of (map S.held shelves.old.items)).first plan.now.widths.columns) }
-    ensures second { IfOk result (λ p. p.second ≡ (pieces_of (map S.held shelves.old.items)).second plan.now.widths.columns) }
-    ensures long { IfOk result (λ p. length p.first ≡ plan.now.rows) }
+    ensures sum { let pieces = pieces_of (map S.held shelves.old.items) in
+        let value = plan.now.widths.columns in
+        IfOk result (λ n. n ≡ inner_of pairs.now.first pairs.now.second (pieces.first value) (pieces.second value)) }
+    ensures visits { AreVisited S.held S.visited (plan.now.widths.columns ∷ []) shelves.old.items shelves.new.items result }
 {
-    let values = read_cells(alloc, plan, shelves, plan.value())?;
-    Ok(values)
+    let (first, second) = (pairs.first.as_slice(), pairs.second.as_slice());
+    let sum = inner_of_values(plan.value(), first, second, shelves.as_mut_slice())?;
+    Ok(sum)
 }

@@ -189,10 +189,10 @@ fn run_of_two<R: Threads + Sync>(
     let mut shelves = servers(alloc, widths)?;
     let ready = Ready::send(alloc, keys, 3, wire)?;
     let bits = ready.bits(rt, alloc, 0, &mut shelves, wire)?;
-    let product = bits.product(alloc, &ready, wire)?;
+    let product = bits.product(rt, alloc, &ready, wire)?;
     let more = product.bits(rt, alloc, &ready, &mut shelves, wire)?;
-    let whole = more.product(alloc, &ready, wire)?;
-    whole.reveal(alloc, &ready, &mut shelves, wire)
+    let whole = more.product(rt, alloc, &ready, wire)?;
+    whole.reveal(rt, alloc, &ready, &mut shelves, wire)
 }
 
 #[test]

@@ -1,14 +1,14 @@
 -- What the parts of three servers add up to.
-use Rattle.std.proofs.Common.{◌≡◌, ℕ, ◌+◌, List, ◌++◌, length, get_or, take, drop, refl, sym, ap, ◌∙◌, arith}
+use Rattle.std.proofs.Common.{◌≡◌, ℕ, ◌+◌, List, [], ◌∷◌, ◌++◌, length, get_or, take, drop, refl, sym, ap, ◌∙◌, arith}
 use Rattle.std.proofs.Math.Seq.{take-append_seam}
 use Rattle.list_facts.proofs.Listed.{length-listed, get_or-listed}
 use Rattle.prg_chacha.specs.declared.seed.Seed.{Seed}
 use Rattle.prg_chacha.specs.Prg.{pad_of}
-use Rattle.ring128.specs.Ring.{plus, minus, times, sums, sums3}
-use Rattle.ring128.proofs.Laws.{inward, sums-listed, length-sums3, get_or-sums3, listed_add_up, dot_of-sums3, dot_of-sums3_right}
+use Rattle.ring128.specs.Ring.{plus, minus, times, dot_of, sums, sums3}
+use Rattle.ring128.proofs.Laws.{inward, sums-listed, length-sums3, get_or-sums3, listed_add_up, dot_of-below, dot_of-sums3, dot_of-sums3_right}
 use Rattle.zero_share.specs.Zero.{parts_of}
 use Rattle.share_product.specs.Product.{local_of, locals_of, local_rows_of}
-use Rattle.share_product.specs.Laws.{LocalsAddUp, RowsAddUp, InnersAddUp, ReshareShares}
+use Rattle.share_product.specs.Laws.{LocalsAddUp, RowsAddUp, InnersAddUp, InnersJoin, ReshareShares}
 
 pub locals_add_up : LocalsAddUp
 locals_add_up a b c d e f = simp inward (omega arith)
@@ -31,6 +31,16 @@ rows_add_up n start a b c d e f s t u x y =
 pub inners_add_up : InnersAddUp
 inners_add_up n a b c d e f x y =
     omega (arith, dot_of-sums3 n a b c (sums3 d e f) x, dot_of-sums3_right n a d e f y, dot_of-sums3_right n b d e f y, dot_of-sums3_right n c d e f y)
+
+dot_of-append : (xs ys us vs : List ℕ) → length xs ≡ length ys → dot_of (xs ++ us) (ys ++ vs) ≡ plus (dot_of xs ys) (dot_of us vs)
+dot_of-append [] [] us vs e = omega (arith, dot_of-below us vs)
+dot_of-append [] (y ∷ ys) us vs e = absurd (omega arith)
+dot_of-append (x ∷ xs) [] us vs e = absurd (omega arith)
+dot_of-append (x ∷ xs) (y ∷ ys) us vs e = omega (arith, dot_of-append xs ys us vs (omega arith))
+
+pub inners_join : InnersJoin
+inners_join n a a' b b' c c' d d' e0 e1 e2 e3 =
+    omega (arith, dot_of-append a b c d (omega arith), dot_of-append a b' c d' (omega arith), dot_of-append a' b c' d (omega arith))
 
 pub reshare_shares : ReshareShares
 reshare_shares part n three =

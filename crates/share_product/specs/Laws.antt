@@ -1,6 +1,6 @@
 -- What the parts of three servers add up to. Server 0 has shares a and b of the first factor, server 1 b and c,
 -- server 2 c and a; of the second factor d and e, e and f, f and d; and the seeds of zero s and t, t and u, u and s.
-use Rattle.std.specs.Prelude.{ℕ, ◌≡◌, ◌+◌, ◌%◌, List, slice_index}
+use Rattle.std.specs.Prelude.{ℕ, ◌≡◌, ◌+◌, ◌%◌, List, ◌++◌, length, slice_index}
 use Rattle.list_facts.specs.Listed.{listed}
 use Rattle.prg_chacha.specs.declared.seed.Seed.{Seed}
 use Rattle.ring128.specs.Laws.{IsThree}
@@ -26,6 +26,12 @@ abbrev pub InnersAddUp : Type 0
 InnersAddUp =
     (n : ℕ) (a b c d e f : List ℕ) → IsThree n a b c → IsThree n d e f
     → plus (plus (inner_of a b d e) (inner_of b c e f)) (inner_of c a f d) ≡ dot_of (sums3 a b c) (sums3 d e f)
+
+-- the part for lists that are joined, the first ones of one length, is the sum of the parts for each of them
+abbrev pub InnersJoin : Type 0
+InnersJoin =
+    (n : ℕ) (a a' b b' c c' d d' : List ℕ) → length a ≡ n → length a' ≡ n → length b ≡ n → length b' ≡ n
+    → inner_of (a ++ c) (a' ++ c') (b ++ d) (b' ++ d') ≡ plus (inner_of a a' b b') (inner_of c c' d d')
 
 -- three lists of parts, each held by its server and by the one before, are shares of their sum
 abbrev pub ReshareShares : Type 0

@@ -61,9 +61,19 @@ pub fn inner(a: &PairList, b: &PairList) -> u128
     requires { length a.now.first ≡ length b.now.first }
     ensures { result ≡ inner_of a.now.first a.now.second b.now.first b.now.second }
 {
-    let (a_first, b_first) = (a.first.as_slice(), b.first.as_slice());
-    let near = add(dot(a_first, b_first), dot(a_first, b.second.as_slice()));
-    add(near, dot(a.second.as_slice(), b_first))
+    let (a_first, a_second) = (a.first.as_slice(), a.second.as_slice());
+    inner_lent(a_first, a_second, b.first.as_slice(), b.second.as_slice())
+}
+
+/// The same of two lists that are lent, each as its firsts and its seconds. All four have one length.
+pub fn inner_lent(a_first: &[u128], a_second: &[u128], b_first: &[u128], b_second: &[u128]) -> u128
+    requires a { length a_second.now ≡ length a_first.now }
+    requires b_first { length b_first.now ≡ length a_first.now }
+    requires b_second { length b_second.now ≡ length a_first.now }
+    ensures { result ≡ inner_of a_first.now a_second.now b_first.now b_second.now }
+{
+    let near = add(dot(a_first, b_first), dot(a_first, b_second));
+    add(near, dot(a_second, b_first))
 }
 
 /// What a server holds after it sent its part of each number to the server before and got the next server's.

@@ -1,9 +1,11 @@
-use Rattle.std.proofs.Common.{ap, sym, length, ◌∙◌, ℕ, map, arith}
+use Rattle.std.proofs.Common.{ap, sym, length, ◌∙◌, ℕ, [], ◌∷◌, map, arith}
 use Rattle.list_facts.proofs.Listed.{length-listed}
 use Rattle.onehot_column.specs.Code.{width_of}
 use Rattle.query_plan.specs.KeyMessages.{view_from}
+use Rattle.transcript.specs.Setup.{column_of}
 use Rattle.server_rounds.specs.Shelves.{pieces_of}
 use Rattle.server_rounds.proofs.Parts.{bits_are_words}
+use Rattle.server_rounds.proofs.Visiting.{none_begun, visited_stopped}
 use Rattle.server_rounds.proofs.part.bits_part.Goals as goal
 
 pub table-requires-clause-predicate : goal.table-requires-clause-predicate
@@ -41,3 +43,21 @@ returns-clause-words g c =
     ∙ bits_are_words c.args.plan.now c.args.run (view_from c.args.keys.now) (pieces_of (map g.S.Shelf.held c.args.shelves.now.items)) c.args.j _ _ _ _ _ _ _
     c.column-column.ensures.value c.in_ok-zero.ensures c.in_ok-one.ensures c.seeds_of.ensures.own c.seeds_of.ensures.next
     c.bits_counter-start.ensures.value c.in_ok-numbers.ensures.numbers
+
+pub returns-in_err-zero-clause-visits : goal.returns-in_err-zero-clause-visits
+returns-in_err-zero-clause-visits g c =
+    visited_stopped g.S.Shelf.held g.S.Shelf.visited (column_of c.args.plan.now c.args.j ∷ []) c.args.shelves.now.items c.args.shelves.now.items _ c.from_residual.ensures.0
+    (none_begun g.S.Shelf.held g.S.Shelf.visited (column_of c.args.plan.now c.args.j ∷ []) c.args.shelves.now.items)
+
+pub returns-in_err-one-clause-visits : goal.returns-in_err-one-clause-visits
+returns-in_err-one-clause-visits g c =
+    visited_stopped g.S.Shelf.held g.S.Shelf.visited (column_of c.args.plan.now c.args.j ∷ []) c.args.shelves.now.items c.args.shelves.now.items _ c.from_residual-in_err-one.ensures.0
+    (none_begun g.S.Shelf.held g.S.Shelf.visited (column_of c.args.plan.now c.args.j ∷ []) c.args.shelves.now.items)
+
+pub returns-in_err-numbers-clause-visits : goal.returns-in_err-numbers-clause-visits
+returns-in_err-numbers-clause-visits g c =
+    visited_stopped g.S.Shelf.held g.S.Shelf.visited (column_of c.args.plan.now c.args.j ∷ []) _ _ _ c.from_residual-in_err-numbers.ensures.0
+    (rw c.column-column.ensures.value at c.in_err-numbers.ensures.visits)
+
+pub returns-clause-visits : goal.returns-clause-visits
+returns-clause-visits g c = rw c.column-column.ensures.value at c.in_ok-numbers.ensures.visits

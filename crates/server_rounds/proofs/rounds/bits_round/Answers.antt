@@ -1,36 +1,36 @@
-use Rattle.std.proofs.Common.{[], refl, rules}
+use Rattle.std.proofs.Common.{◌≡◌, ◌∙◌, sym, [], refl, rules}
 use Rattle.std.proofs.lemmas.Result.{IfOk-at_ok}
 use Rattle.wire_line.specs.Carried.{went_none}
 use Rattle.server_rounds.proofs.Messages.{group_none, regroup, three_same}
 use Rattle.server_rounds.proofs.rounds.bits_round.Goals as goal
 
-pub returns-in_err-zero-clause-messages : goal.returns-in_err-zero-clause-messages
-returns-in_err-zero-clause-messages g c =
+pub returns-in_err-words-clause-messages : goal.returns-in_err-words-clause-messages
+returns-in_err-words-clause-messages g c =
     ([], went_none g.W.Wire.told g.W.Wire.alterations g.W.Wire.passes _ _ refl refl (g.met.W.Wire.none_passes _), group_none _ _, search rules)
 
-pub returns-in_err-one-clause-messages : goal.returns-in_err-one-clause-messages
-returns-in_err-one-clause-messages g c =
-    ([], went_none g.W.Wire.told g.W.Wire.alterations g.W.Wire.passes _ _ refl refl (g.met.W.Wire.none_passes _), group_none _ _, search rules)
+pub reshare-requires-clause-one : goal.reshare-requires-clause-one
+reshare-requires-clause-one g c =
+    IfOk-at_ok _ c.in_ok-words.ensures.at1 c.bits_at_once-zero.ensures.one.long ∙ sym (IfOk-at_ok _ c.in_ok-words.ensures.at0 c.bits_at_once-zero.ensures.zero.long)
 
-pub returns-in_err-two-clause-messages : goal.returns-in_err-two-clause-messages
-returns-in_err-two-clause-messages g c =
-    ([], went_none g.W.Wire.told g.W.Wire.alterations g.W.Wire.passes _ _ refl refl (g.met.W.Wire.none_passes _), group_none _ _, search rules)
+pub reshare-requires-clause-two : goal.reshare-requires-clause-two
+reshare-requires-clause-two g c =
+    IfOk-at_ok _ c.in_ok-words.ensures.at2 c.bits_at_once-zero.ensures.two.long ∙ sym (IfOk-at_ok _ c.in_ok-words.ensures.at0 c.bits_at_once-zero.ensures.zero.long)
 
 pub returns-in_err-held-clause-messages : goal.returns-in_err-held-clause-messages
 returns-in_err-held-clause-messages g c =
     let h = c.in_err-held.ensures.messages in
-    let e0 = IfOk-at_ok _ c.in_ok-zero.was c.bits_at_once-zero.ensures.zero.words in
-    let e1 = IfOk-at_ok _ c.in_ok-one.was c.bits_at_once-zero.ensures.one.words in
-    let e2 = IfOk-at_ok _ c.in_ok-two.was c.bits_at_once-zero.ensures.two.words in
+    let e0 = IfOk-at_ok _ c.in_ok-words.ensures.at0 c.bits_at_once-zero.ensures.zero.words in
+    let e1 = IfOk-at_ok _ c.in_ok-words.ensures.at1 c.bits_at_once-zero.ensures.one.words in
+    let e2 = IfOk-at_ok _ c.in_ok-words.ensures.at2 c.bits_at_once-zero.ensures.two.words in
     (h.0, h.1, regroup _ _ _ h.0 h.2 (three_same _ _ e0 e1 e2), search rules)
 
 pub returns-clause-long : goal.returns-clause-long
-returns-clause-long g c = rw (IfOk-at_ok _ c.in_ok-zero.was c.bits_at_once-zero.ensures.zero.long) at c.in_ok-held.ensures.long
+returns-clause-long g c = rw (IfOk-at_ok _ c.in_ok-words.ensures.at0 c.bits_at_once-zero.ensures.zero.long) at c.in_ok-held.ensures.long
 
 pub returns-clause-messages : goal.returns-clause-messages
 returns-clause-messages g c =
     let h = c.in_ok-held.ensures.messages in
-    let e0 = IfOk-at_ok _ c.in_ok-zero.was c.bits_at_once-zero.ensures.zero.words in
-    let e1 = IfOk-at_ok _ c.in_ok-one.was c.bits_at_once-zero.ensures.one.words in
-    let e2 = IfOk-at_ok _ c.in_ok-two.was c.bits_at_once-zero.ensures.two.words in
+    let e0 = IfOk-at_ok _ c.in_ok-words.ensures.at0 c.bits_at_once-zero.ensures.zero.words in
+    let e1 = IfOk-at_ok _ c.in_ok-words.ensures.at1 c.bits_at_once-zero.ensures.one.words in
+    let e2 = IfOk-at_ok _ c.in_ok-words.ensures.at2 c.bits_at_once-zero.ensures.two.words in
     (h.0, h.1, regroup _ _ _ h.0 h.2 (three_same _ _ e0 e1 e2), h.3)

@@ -10,16 +10,16 @@ returns-in_err-product-clause-messages g c =
     let b = c.in_err-product.ensures.messages in (b.0, b.1, b.2 (total_ending c.args.ready.now.plan), search rules)
 
 pub reveal-requires-clause-last : goal.reveal-requires-clause-last
-reveal-requires-clause-last g c = c.in_ok-product.ensures.last ∙ ap (λ (z : Sizes). count_of z) (sym c.in_ok-product.ensures.plan)
+reveal-requires-clause-last g c κs within = c.in_ok-product.ensures.last ∙ ap (λ (z : Sizes). count_of z) (sym c.in_ok-product.ensures.plan)
 
 pub reveal-requires-clause-zero : goal.reveal-requires-clause-zero
-reveal-requires-clause-zero g c = rw (c.in_ok-product.ensures.plan, c.in_ok-product.ensures.zero) c.requires.zero
+reveal-requires-clause-zero g c κs within = rw (c.in_ok-product.ensures.plan, c.in_ok-product.ensures.zero) c.requires.zero
 
 pub reveal-requires-clause-one : goal.reveal-requires-clause-one
-reveal-requires-clause-one g c = rw (c.in_ok-product.ensures.plan, c.in_ok-product.ensures.one) c.requires.one
+reveal-requires-clause-one g c κs within = rw (c.in_ok-product.ensures.plan, c.in_ok-product.ensures.one) c.requires.one
 
 pub reveal-requires-clause-two : goal.reveal-requires-clause-two
-reveal-requires-clause-two g c = rw (c.in_ok-product.ensures.plan, c.in_ok-product.ensures.two) c.requires.two
+reveal-requires-clause-two g c κs within = rw (c.in_ok-product.ensures.plan, c.in_ok-product.ensures.two) c.requires.two
 
 pub returns-in_err-opened-clause-zero : goal.returns-in_err-opened-clause-zero
 returns-in_err-opened-clause-zero g c = c.in_err-opened.ensures.zero ∙ c.in_ok-product.ensures.zero
