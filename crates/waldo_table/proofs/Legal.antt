@@ -1,5 +1,5 @@
 -- What a vault and a pass keep.
-use Rattle.std.proofs.Common.{◌≡◌, ◌∙◌, refl, sym, ap, subst, ℕ, zero, suc, ◌+◌, ◌<◌, ◌≤◌, Bool, true, false, cond, Option, Some, None, slice_get, List, [], ◌∷◌, ◌++◌, length, take, arith}
+use Rattle.std.proofs.Common.{◌≡◌, ◌∙◌, refl, sym, ap, subst, ℕ, zero, suc, ◌<◌, ◌≤◌, Bool, true, false, cond, Option, Some, None, slice_get, List, [], ◌∷◌, ◌++◌, length, take, arith}
 use Rattle.std.specs.Prelude.{is_some}
 use mathlib.Core.List.{IsPrefix}
 use Rattle.list_facts.specs.Count.{has, times}
@@ -24,7 +24,7 @@ use Rattle.waldo_table.specs.Vaults.{Behind, IsJournal, IsVault, tag_for}
 use Rattle.waldo_table.specs.declared.tag.VaultTag.{VaultTag}
 use Rattle.waldo_table.specs.Faults.{at_server}
 use Rattle.waldo_table.specs.Fixes.{IsFixFault}
-use Rattle.waldo_table.specs.Tables.{Appends, Grows, IsLegal, IsMemory, IsSeat, Looked, PassView}
+use Rattle.waldo_table.specs.Tables.{Grows, IsLegal, IsMemory, IsSeat, Looked, PassView}
 use Rattle.waldo_table.specs.declared.faults.AgreeFault.{AgreeFault}
 use Rattle.waldo_table.specs.declared.faults.FixFault.{FixFault}
 use Rattle.waldo_table.specs.declared.faults.FixFault.TheVariants as fix

@@ -4,3 +4,4 @@ pub mod Fixes
 pub mod Pieces
 pub mod Tables
 pub mod Vaults
+pub mod View

@@ -1,7 +1,6 @@
 -- What contracts see of a table and of a pass.
 use Rattle.std.specs.Prelude.{◌≡◌, ℕ, zero, suc, ◌+◌, ◌<◌, ◌≤◌, ⊤, true, false, if◌then◌else◌, List, [], ◌∷◌, ◌++◌, length, max, min, take, slice_get, Some}
 use mathlib.Core.List.{IsPrefix}
-use Rattle.atomic_table.specs.Seated.{TableId}
 use Rattle.journal_lock.specs.Seats as lock
 use Rattle.list_facts.specs.Count.{has, longer}
 use Rattle.prefix_log.specs.Journal.{prefix}
@@ -11,21 +10,14 @@ use Rattle.prefix_log.specs.declared.fault.OpenFault.TheVariants as open_faults
 use Rattle.table_schema.specs.Widths.{Fits, cells_of, column_bits}
 use Rattle.table_schema.specs.declared.rows.Row.{Row}
 use Rattle.table_schema.specs.declared.widths.Widths.{Widths}
-use Rattle.ticket_place.specs.Sights.{Named, Seen, IsSound}
+use Rattle.ticket_place.specs.Sights.{Named, Seen}
 use Rattle.agreed_rows.specs.Agreed.{Entries}
 use Rattle.waldo_table.specs.Pieces.{Placing, is_done}
 use Rattle.waldo_table.specs.Vaults.{IsJournal, tag_for}
+pub use Rattle.waldo_table.specs.View.{TableView}
 use Rattle.waldo_table.specs.declared.faults.AgreeFault.{AgreeFault}
 use Rattle.waldo_table.specs.declared.faults.AgreeFault.TheVariants as agree
 use Rattle.waldo_table.specs.declared.tag.VaultTag.{VaultTag}
-
--- the widths of its rows, its book with the most rows that it takes, and which locks the three servers are behind
-pub record TableView : Type 0 where
-  pub widths : Widths
-  pub book : Named
-  pub zero : TableId
-  pub one : TableId
-  pub two : TableId
 
 -- a caller: what it has seen of the order, with its room and its own places; of each journal, with its looks; and its floor
 pub record PassView : Type 0 where

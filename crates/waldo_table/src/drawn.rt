@@ -1,53 +1,56 @@
 //! A draw whose pieces are being placed.
-ghost use Rattle.std.specs.Prelude.{◌≡◌, ◌<◌, Some, true};
-ghost use Rattle.waldo_table.specs.Pieces.{IsPieceOf, is_done as done_of, placed_at};
+ghost use Rattle.std.specs.Prelude.{◌≡◌, ◌<◌, true};
+ghost use Rattle.waldo_table.specs.Pieces.{is_done as done_of, placed_at};
 
-use onehot_column::Piece;
+use crate::part::AtServer;
+use crate::table::Table;
 use prg_chacha::Seed;
 use std::marker::Model;
-use table_schema::{Row, Widths};
+use std::snapshot::Snapshot;
+use table_schema::Row;
 
-/// A row that has its place, and for each server its piece until it is placed. It can't be let go: it ends in [`finish`].
+/// A row that has its place in the order of a table, with the pieces that are not placed yet. It can't be let go: each
+/// path of a program that draws ends in [`finish`], once all three pieces are placed.
 ///
-/// Contracts see it as the widths, the entry, its place, and at which servers it was placed.
+/// Contracts see it as the table, the entry, its place, and at which servers it was placed.
 pub struct Drawn {
-    pub(crate) widths: Widths,
+    pub(crate) table: Snapshot<Table>, // takes no bytes
     pub(crate) row: Row,
     pub(crate) seed: Seed,
     pub(crate) place: u64,
-    pub(crate) zero: Option<Piece>,
-    pub(crate) one: Option<Piece>,
-    pub(crate) two: Option<Piece>,
+    pub(crate) zero: AtServer,
+    pub(crate) one: AtServer,
+    pub(crate) two: AtServer,
 }
 
 impl Model for Drawn {
-    ghost use Rattle.std.specs.Prelude.{is_none, ◌<◌};
-    ghost use Rattle.waldo_table.specs.Pieces.{Placing, HasLeft};
+    ghost use Rattle.std.specs.Prelude.{◌<◌};
+    ghost use Rattle.waldo_table.specs.Pieces.{Placing, HasParts, was_placed};
 
     ghost Value = { Placing };
 
-    ghost view = { λ d. record { widths = d.widths; entry = (d.row, d.seed); place = d.place; zero = is_none d.zero; one = is_none d.one; two = is_none d.two } };
+    ghost view = { λ d. record { table = d.table.value; entry = (d.row, d.seed); place = d.place; zero = was_placed d.zero; one = was_placed d.one; two = was_placed d.two } };
 
-    ghost invariant = { λ d. HasLeft d.widths (d.row, d.seed) d.zero d.one d.two × (d.place < 65536) };
+    ghost invariant = { λ d. HasParts d.table.value (d.row, d.seed) d.place d.zero d.one d.two × (d.place < 65536) };
 }
 
 impl Drawn {
-    /// Its place in the order.
+    /// Its place in the order, from 0.
     pub fn place(&self) -> u64
         ensures { result ≡ self.now.place }
     {
         self.place
     }
 
-    /// Whether its piece was placed at a server.
+    /// Whether its piece was placed at a server: 0, 1 or 2.
     pub fn placed(&self, server: u8) -> bool
         requires { server < 3 }
         ensures { result ≡ placed_at server self.now }
     {
         match server {
-            0 => self.zero.is_none(),
-            1 => self.one.is_none(),
-            _ => self.two.is_none(),
+            0 => self.zero.is_placed(),
+            1 => self.one.is_placed(),
+            _ => self.two.is_placed(),
         }
     }
 
@@ -55,7 +58,7 @@ impl Drawn {
     pub(crate) fn is_done(&self) -> bool
         ensures { result ≡ done_of self.now }
     {
-        self.zero.is_none() && self.one.is_none() && self.two.is_none()
+        self.zero.is_placed() && self.one.is_placed() && self.two.is_placed()
     }
 }
 
@@ -65,7 +68,7 @@ pub fn finish(drawn: Drawn) -> u64
     ensures { result ≡ drawn.place }
 {
     let Drawn {
-        widths: _,
+        table: _,
         row: _,
         seed: _,
         place,

@@ -4,26 +4,33 @@ ghost use Rattle.waldo_table.specs.Faults.{as_asked, at_server};
 
 use crate::prepared::Prepared;
 
-/// No draw was left in the pass, and nothing was drawn: the capacity, and what was prepared back.
+/// The pass had no draw left, and nothing was drawn: the table's capacity in rows, and the prepared row, which the caller
+/// has back.
 #[derive(Drop)]
 pub struct Full {
     pub capacity: u32,
     pub prepared: Prepared,
 }
 
-/// Why three servers did not agree: one lacked a row that the pass had seen, or there was no memory.
+/// Why the three servers did not agree. The pass's floor stays in both cases.
 #[derive(Clone, Copy, Debug, PartialEq, Eq)]
 pub enum AgreeFault {
-    /// The server had just so many of the first rows, fewer than the floor.
+    /// At the look of this call the server (0, 1 or 2) had only the first `had` rows, fewer than the floor. The servers
+    /// before it had at least `floor`; those after it were not looked at.
     Again { server: u8, had: u64, floor: u64 },
+    /// Memory ran out.
     Memory,
 }
 
-/// Why a query was not answered: as for an agreement, or the check refused what was opened.
+/// Why a query was not answered.
 #[derive(Clone, Copy, Debug, PartialEq, Eq)]
 pub enum AskFault {
+    /// No agreement, as [`AgreeFault::Again`] says. No message was carried.
     Again { server: u8, had: u64, floor: u64 },
+    /// The check refused the opened pair, which is here: the total, and the total under the weights. It comes only where
+    /// the wire altered a message.
     Altered { total: u128, weighted: u128 },
+    /// Memory ran out, before the agreement or after it.
     Memory,
 }
 
@@ -38,7 +45,7 @@ impl AgreeFault {
     }
 }
 
-// Why a server was not fixed.
+// Why no snapshot was taken at a server.
 #[derive(Clone, Copy)]
 pub(crate) enum FixFault {
     Below { had: u64 },

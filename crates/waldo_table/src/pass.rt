@@ -1,15 +1,18 @@
 //! What one caller has seen of a table.
-ghost use Rattle.std.specs.Prelude.{◌≡◌, ◌<◌, length};
+ghost use Rattle.std.specs.Prelude.{◌≡◌};
 ghost use Rattle.ticket_place.specs.Sights.{IsSound};
-ghost use Rattle.waldo_table.specs.Tables.{IsLegal as Legal, risen};
+ghost use Rattle.waldo_table.specs.Tables.{IsLegal as Legal};
 
-use crate::drawn::Drawn;
 use crate::vault::Vault;
 use journal_lock::Seat;
 use std::marker::Model;
 use ticket_place::Sight;
 
-/// What one caller has seen of the order and of the three journals, and its floor, the greatest number of rows that it was told.
+/// What one caller has seen of a table: the order and the three journals; and its floor, the greatest number of rows that it
+/// was told of. The first pass comes with the table, each other one from [`Table::split_pass`](crate::Table::split_pass).
+///
+/// Contracts see it as the order with its room and the places drawn through it, per server the journal and the number of
+/// looks, and the floor.
 #[derive(Drop)]
 pub struct Pass {
     pub(crate) sight: Sight,
@@ -30,7 +33,7 @@ impl Model for Pass {
 }
 
 impl Pass {
-    /// The greatest number of rows that it was told.
+    /// The greatest number of rows that it was told of: by a look, by an agreement, or by the third placing of a row.
     pub fn floor(&self) -> u64
         ensures floor { result ≡ self.now.floor }
         ensures legal { Legal self.now }
@@ -38,21 +41,11 @@ impl Pass {
         self.floor
     }
 
-    /// The draws that it may still make.
+    /// How many draws it may still make.
     pub fn room(&self) -> u64
         ensures room { result ≡ self.now.sight.room }
         ensures sound { IsSound self.now.sight }
     {
         self.sight.room()
-    }
-
-    // The floor of a draw whose pieces are all placed.
-    pub(crate) fn rise(&mut self, drawn: &Drawn)
-        requires { drawn.now.place < length self.old.sight.order }
-        ensures { self.new ≡ record self.old { floor = risen drawn.now self.old.floor } }
-    {
-        if drawn.is_done() {
-            self.floor = self.floor.max(drawn.place + 1);
-        }
     }
 }

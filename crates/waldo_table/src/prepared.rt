@@ -9,7 +9,7 @@ use std::alloc::Global;
 use std::marker::Model;
 use table_schema::{Row, Widths};
 
-/// A row with its seed, and its pieces at the three servers.
+/// A row with its seed, and its pieces for the three servers: all that an append needs of memory.
 ///
 /// Contracts see it as the widths and the entry.
 #[derive(Drop)]
@@ -32,7 +32,7 @@ impl Model for Prepared {
     ghost invariant = { λ p. HasPieces p.widths (p.row, p.seed) p.zero p.one p.two };
 }
 
-/// Splits a row by its seed. The only error is want of memory.
+/// Splits a row of these widths by its seed. The only error is that memory ran out.
 pub fn prepare(alloc: Global, widths: &Widths, row: &Row, seed: &Seed) -> Result<Prepared, Memory>
     requires { Holds widths.now row.now }
     ensures { IfOk result (λ p. p ≡ record { widths = widths.now; entry = (row.now, seed.now) }) }

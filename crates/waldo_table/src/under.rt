@@ -1,21 +1,26 @@
 // What is done under one server's lock.
-ghost use Rattle.std.specs.Prelude.{◌≡◌, ℕ, ◌+◌, ◌<◌, ◌≤◌, length, IfOk, IfErr, OnOk, true, false, Option, IsSome};
-ghost use Rattle.std.specs.Option.{ForSome};
+ghost use Rattle.std.specs.Prelude.{◌≡◌, ◌≤◌, IfOk, IfErr, true, false};
 ghost use mathlib.Core.List.{IsPrefix};
-ghost use Rattle.list_facts.specs.Count.{has};
+ghost use Rattle.journal_lock.specs.Seats.{Seen};
+ghost use Rattle.list_facts.specs.Count.{has, times};
+ghost use Rattle.onehot_column.specs.declared.piece.Piece.{Piece};
 ghost use Rattle.prefix_log.specs.Journal.{prefix};
 ghost use Rattle.ticket_place.specs.Sights.{IsSound};
 ghost use Rattle.agreed_rows.specs.Servers.{IsShareAt, KeepsFirst};
 ghost use Rattle.waldo_table.specs.Fixes.{IsFixFault};
+ghost use Rattle.waldo_table.specs.Pieces.{HasSeen, was_placed};
 ghost use Rattle.waldo_table.specs.Tables.{Looked};
+ghost use Rattle.waldo_table.specs.declared.part.AtServer.TheVariants as parts;
 
 use crate::faults::FixFault;
+use crate::part::AtServer;
 use crate::vault::Vault;
 use journal_lock::{JournalLock, Seat};
 use onehot_column::Piece;
 use prefix_log::Snapshot;
 use scan_chunks::Shelf;
 use std::alloc::Global;
+use std::mem;
 use std::sync::Wait;
 use ticket_place::{Book, Sight};
 
@@ -69,7 +74,57 @@ pub(crate) fn look<R: Wait>(
     prefix
 }
 
-// Puts a piece, if there is one, at its place.
+// Looks again, with what another seat saw.
+fn look_again<R: Wait>(
+    rt: &R,
+    book: &Book,
+    lock: &JournalLock<Vault>,
+    sight: &mut Sight,
+    seat: &mut Seat<Vault>,
+    place: u64,
+    other: Seat<Vault>,
+)
+    requires of { (sight.old.book ≡ book.now) × (seat.old.lock ≡ lock.now.id) × (seat.old.holds ≡ false) }
+    requires lock { lock.now.tag.book.value ≡ book.now }
+    requires placed { HasSeen lock.now.id place other }
+    ensures sight { sight.new ≡ record sight.old { order = sight.new.order } }
+    ensures order { IsPrefix sight.old.order sight.new.order }
+    ensures seat { Looked sight.new.order seat.old seat.new }
+    ensures sound { IsSound sight.new }
+    ensures there { has place seat.new.seen ≡ true }
+{
+    lock.join(seat, other);
+    look(rt, book, lock, sight, seat);
+}
+
+// Puts the piece at its place, or sees that it stands there.
+fn settle<R: Wait>(
+    rt: &R,
+    book: &Book,
+    lock: &JournalLock<Vault>,
+    sight: &mut Sight,
+    seat: &mut Seat<Vault>,
+    at: u64,
+    part: AtServer,
+)
+    requires of { (sight.old.book ≡ book.now) × (seat.old.lock ≡ lock.now.id) × (seat.old.holds ≡ false) }
+    requires lock { (lock.now.tag.book.value ≡ book.now) × (lock.now.tag.capacity ≡ book.now.capacity) }
+    requires left { (p : Piece) → part ≡ parts.Left p → IsShareAt lock.now.tag.widths lock.now.tag.server sight.old.order at p }
+    requires placed { (s : Seen) → part ≡ parts.Placed s → HasSeen lock.now.id at s }
+    ensures sight { sight.new ≡ record sight.old { order = sight.new.order } }
+    ensures order { IsPrefix sight.old.order sight.new.order }
+    ensures seat { Looked sight.new.order seat.old seat.new }
+    ensures sound { IsSound sight.new }
+    ensures there { has at seat.new.seen ≡ true }
+{
+    match part {
+        AtServer::Left(piece) => place(rt, book, lock, sight, seat, at, piece),
+        AtServer::Placed(other) => look_again(rt, book, lock, sight, seat, at, other),
+    }
+}
+
+// The same of what a draw keeps for the server. A seat that has seen the place stays in the draw, so that a later placing
+// through another pass can tell that pass so.
 pub(crate) fn put<R: Wait>(
     rt: &R,
     book: &Book,
@@ -77,23 +132,23 @@ pub(crate) fn put<R: Wait>(
     sight: &mut Sight,
     seat: &mut Seat<Vault>,
     at: u64,
-    piece: Option<Piece>,
+    part: &mut AtServer,
 )
     requires of { (sight.old.book ≡ book.now) × (seat.old.lock ≡ lock.now.id) × (seat.old.holds ≡ false) }
     requires lock { (lock.now.tag.book.value ≡ book.now) × (lock.now.tag.capacity ≡ book.now.capacity) }
-    requires share { ForSome piece (IsShareAt lock.now.tag.widths lock.now.tag.server sight.old.order at) }
+    requires left { (p : Piece) → part.old ≡ parts.Left p → IsShareAt lock.now.tag.widths lock.now.tag.server sight.old.order at p }
+    requires placed { (s : Seen) → part.old ≡ parts.Placed s → HasSeen lock.now.id at s }
     ensures sight { sight.new ≡ record sight.old { order = sight.new.order } }
     ensures order { IsPrefix sight.old.order sight.new.order }
     ensures seat { Looked sight.new.order seat.old seat.new }
     ensures sound { IsSound sight.new }
-    ensures there { IsSome piece → has at seat.new.seen ≡ true }
+    ensures there { times at seat.new.seen ≡ 1 }
+    ensures placed { was_placed part.new ≡ true }
+    ensures keeps { (s : Seen) → part.new ≡ parts.Placed s → HasSeen lock.now.id at s }
 {
-    match piece {
-        Some(piece) => place(rt, book, lock, sight, seat, at, piece),
-        None => {
-            look(rt, book, lock, sight, seat);
-        }
-    }
+    let before = mem::replace(part, AtServer::Placed(lock.split(seat)));
+    settle(rt, book, lock, sight, seat, at, before);
+    *part = AtServer::Placed(lock.split(seat));
 }
 
 // A snapshot of the first places, unless they are fewer than the floor.

@@ -1,9 +1,6 @@
-use Rattle.std.proofs.Common.{◌≡◌, ◌∙◌, ℕ, ◌≤◌, sym, ap, subst, length, arith}
+use Rattle.std.proofs.Common.{sym, subst}
 use Rattle.list_facts.proofs.Prefixes.{prefix_self, prefix_trans}
-use Rattle.agreed_rows.specs.Agreed.{Entries}
-use Rattle.agreed_rows.proofs.Shares.{keeps_grows}
-use Rattle.table_schema.specs.declared.widths.Widths.{Widths}
-use Rattle.waldo_table.specs.Tables.{IsCovered, PassView}
+use Rattle.waldo_table.specs.Tables.{IsCovered}
 use Rattle.waldo_table.proofs.Legal.{floor_more, grows_as, keeps_as, legal_one, legal_two, never_by, rows_within}
 use Rattle.waldo_table.proofs.table.Table.agree.Goals as goal
 
@@ -28,7 +25,7 @@ pub invariant_of-pass-in-Err-fix-2 : goal.invariant_of-pass-in-Err-fix-2
 invariant_of-pass-in-Err-fix-2 g c =
     let more = prefix_trans _ _ _ c.fix.ensures.order (prefix_trans _ _ _ c.fix-2.ensures.order c.fix-3.ensures.order) in
     legal_two _ c.pass.invariant c.fix.new.sight _ c.fix.ensures.order c.fix.ensures.seat c.fix-2.new.sight c.fix-3.new.sight c.fix-2.ensures.order c.fix-3.ensures.order _ _ c.fix-2.ensures.seat c.fix-3.ensures.seat _
-        (floor_more _ _ _ more c.pass.invariant.floor)
+    (floor_more _ _ _ more c.pass.invariant.floor)
 
 pub returns-in-Err-fix-2-clause-never : goal.returns-in-Err-fix-2-clause-never
 returns-in-Err-fix-2-clause-never g c covered =
@@ -48,4 +45,4 @@ of-agreed-requires-clause-one g c =
 pub invariant_of-pass-2 : goal.invariant_of-pass-2
 invariant_of-pass-2 g c =
     legal_two _ c.pass.invariant c.fix.new.sight _ c.fix.ensures.order c.fix.ensures.seat c.fix-2.new.sight c.fix-3.new.sight c.fix-2.ensures.order c.fix-3.ensures.order _ _ c.fix-2.ensures.seat c.fix-3.ensures.seat _
-        (rw c.rows-pass-inside.ensures.rows (rows_within _ _ _ _ c.of-agreed.ensures))
+    (rw c.rows-pass-inside.ensures.rows (rows_within _ _ _ _ c.of-agreed.ensures))

@@ -1,4 +1,4 @@
-use Rattle.std.proofs.Common.{◌≡◌, ◌∙◌, sym, ap, Some, slice_get, List}
+use Rattle.std.proofs.Common.{◌∙◌, ap, Some}
 use Rattle.waldo_table.specs.Pieces.{Ready}
 use Rattle.waldo_table.proofs.Legal.{drawn_grows, drawn_there, legal_by, legal_more}
 use Rattle.waldo_table.proofs.table.Table.draw.Goals as goal

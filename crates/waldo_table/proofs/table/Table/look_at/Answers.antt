@@ -1,4 +1,4 @@
-use Rattle.std.proofs.Common.{◌≤◌, arith}
+use Rattle.std.proofs.Common.{arith}
 use Rattle.waldo_table.proofs.Legal.{prefix_within}
 use Rattle.waldo_table.proofs.table.Table.look_at.Goals as goal
 
