@@ -26,25 +26,22 @@ use Rattle.schedule_play.specs.Laws.{AskedPlainly, EndsPlainly, asked_lines, che
 use Rattle.schedule_play.specs.Plain.{plain_lines, plainly}
 use Rattle.schedule_play.specs.Stages.{Stage, played}
 use Rattle.schedule_play.specs.Tasks.{IsSetting, Setting, asking}
-use Rattle.schedule_play.proofs.AppendedRows.{entries_from}
-use Rattle.schedule_play.proofs.AskedQueries.{EndsIn, all_entries, all_numbers, check_of, in_order, is_refused, other_actors, other_rounds, some_refused, with_fixes}
+use Rattle.schedule_play.specs.Appended.{seeded_rows}
+use Rattle.schedule_play.proofs.AppendedRows.{all_entries, all_numbers, length-seeded_rows, other_actors, other_rounds}
+use Rattle.schedule_play.proofs.AskedQueries.{EndsIn, check_of, in_order, is_refused, some_refused, with_fixes}
 
 -- a pair that keeps the relation is accepted
 accepted : (total key : ℕ) → total < 2 ^ 64 → checked total (times key total) key ≡ Ok total
 accepted total key small = rw (eq-eqb (times key total) (times key total) refl, lt-ltb total (2 ^ 64) small) refl
 
-length-entries_from : (master : Seed) (i : ℕ) (rows : List Row) → length (entries_from master i rows) ≡ length rows
-length-entries_from master i [] = refl
-length-entries_from master i (row ∷ rows) = ap suc (length-entries_from master (i + 1) rows)
-
-rows_back : (master : Seed) (i : ℕ) (rows : List Row) → map (λ (entry : Row × Seed). entry.0) (entries_from master i rows) ≡ rows
+rows_back : (master : Seed) (i : ℕ) (rows : List Row) → map (λ (entry : Row × Seed). entry.0) (seeded_rows master i rows) ≡ rows
 rows_back master i [] = refl
 rows_back master i (row ∷ rows) = ap (λ (l : List Row). row ∷ l) (rows_back master (i + 1) rows)
 
 -- the first rows of the order, as many as there are, are the rows
 all_back : (s : Setting) → map (λ (entry : Row × Seed). entry.0) (take (length s.rows) (all_entries s)) ≡ s.rows
 all_back s =
-    let long = length-entries_from s.master 0 s.rows in
+    let long = length-seeded_rows s.master 0 s.rows in
     ap (map (λ (entry : Row × Seed). entry.0)) (take_all (length s.rows) (all_entries s) (omega arith)) ∙ rows_back s.master 0 s.rows
 
 -- what query q opens plainly

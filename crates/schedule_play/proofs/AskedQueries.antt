@@ -1,5 +1,5 @@
 -- Queries that actor 0 asks one after another over all rows.
-use Rattle.std.proofs.Common.{◌≡◌, ◌∙◌, refl, sym, ap, subst, ℕ, suc, ◌+◌, ◌*◌, Bool, true, false, ◌||◌, Some, None, Result, Ok, Err, List, [], ◌∷◌, ◌++◌, length, slice_get, map, min, arith, append_assoc, append-nil}
+use Rattle.std.proofs.Common.{◌≡◌, ◌∙◌, refl, sym, ap, subst, ℕ, suc, ◌+◌, ◌*◌, Bool, true, false, ◌||◌, Some, None, Result, Ok, Err, List, [], ◌∷◌, ◌++◌, length, slice_get, min, arith, append_assoc, append-nil}
 use Rattle.std.specs.Prelude.{⊤}
 use Rattle.std.proofs.lemmas.Bool.{le-ltb}
 use Rattle.std.specs.List.{flat_map, range_with_len}
@@ -13,18 +13,19 @@ use Rattle.server_rounds.specs.declared.opened.OpenedPair.{OpenedPair}
 use Rattle.table_schema.specs.declared.rows.Row.{Row}
 use Rattle.weighted_check.specs.Check.{checked}
 use Rattle.weighted_check.specs.declared.Altered.{Altered}
-use Rattle.waldo_core.specs.Core.{Actor, Fixes, fresh, prefix}
+use Rattle.waldo_core.specs.Core.{Actor, Fixes, prefix}
 use Rattle.waldo_core.specs.Core.Fixes.{Unfixed, First, Second, Agreed}
 use Rattle.waldo_core.specs.Step.{reply_of}
 use Rattle.waldo_words.specs.declared.schedule.Step.{Step}
 use Rattle.waldo_words.specs.declared.schedule.Step.TheVariants as steps
 use Rattle.schedule_play.specs.History.{opened_in}
 use Rattle.schedule_play.specs.Laws.{AskedInOrder, EndsInLines, asked_lines, checked_line, pair_of_query}
-use Rattle.schedule_play.specs.Stages.{Opening, Stage, go_on, next_stage, played, played_on, with_reply}
-use Rattle.schedule_play.specs.Tasks.{Setting, ask_steps, asking}
+use Rattle.schedule_play.specs.Stages.{Opening, Stage, first_stage, go_on, next_stage, played, played_on, with_reply}
+use Rattle.schedule_play.specs.Tasks.{Setting, append_steps, ask_steps, asking}
 use Rattle.schedule_play.specs.declared.style.Style.TheVariants.{Queries}
-use Rattle.schedule_play.proofs.AppendedRows.{all_rows, core_with, entries_from, same_start}
-use Rattle.schedule_play.proofs.RowNumbers.{numbers_below, prefix-numbers_below}
+use Rattle.schedule_play.proofs.AppendedRows.{all_entries, all_go, all_numbers, core_with, goes_played, other_actors, other_rounds, with_rows}
+use Rattle.schedule_play.proofs.Loops.{length-parts}
+use Rattle.schedule_play.proofs.RowNumbers.{prefix-numbers_below}
 
 -- whether the check refused a pair
 abbrev pub is_refused : Result ℕ Altered → Bool
@@ -167,20 +168,6 @@ module _ (s : Setting) (opens : Opening) (pairs : ℕ → OpenedPair) (order : L
 
 -- ---- all steps
 
--- the other actors and their rounds, before any step
-abbrev pub other_actors : List Actor
-other_actors = map (λ (actor : ℕ). fresh) (range_with_len 1 15)
-
-abbrev pub other_rounds : List ℕ
-other_rounds = map (λ (actor : ℕ). 0) (range_with_len 1 15)
-
--- the order and the journals once all rows were appended
-abbrev pub all_entries : Setting → List (Row × Seed)
-all_entries s = entries_from s.master 0 s.rows
-
-abbrev pub all_numbers : Setting → List ℕ
-all_numbers s = numbers_below (length s.rows)
-
 -- what the steps come to, whatever the queries open
 pub in_order : (s : Setting) (opens : Opening) (pairs : ℕ → OpenedPair) → AreOpened s opens pairs (all_entries s) (all_numbers s) other_actors other_rounds
     → EndsIn (asked_lines s pairs 0 s.queries) (some_refused s pairs 0 s.queries) (played opens (asking s))
@@ -189,10 +176,11 @@ in_order s opens pairs opened =
     let ask = flat_map ask_steps (range_with_len 0 (length s.queries)) in
     let from_none : (k : ℕ) → 0 + k ≡ k = λ k. omega arith in
     let same : 4 * n ≡ 4 * n + 4 * 0 = omega arith in
-    let start = played_on s Queries opens (4 * n) (with_fixes (all_entries s) (all_numbers s) n other_actors Unfixed (0 ∷ other_rounds) [] false) ask in
-    let appended : played opens (asking s) ≡ start =
-    all_rows s opens other_actors (0 ∷ other_rounds) s.rows 0 0 [] ask refl (λ k. ap (slice_get s.rows) (from_none k)) (from_none n)
-    ∙ same_start s opens other_actors (0 ∷ other_rounds) (0 + 4 * n) (4 * n) (0 + n) n (all_entries s) (all_entries s) ask (from_none (4 * n)) (from_none n) refl in
+    let append = flat_map (λ (row : ℕ). append_steps) (range_with_len 0 n) in
+    let count : 0 + length append ≡ 4 * n = omega (arith, length-parts (λ (row : ℕ). append_steps) 4 0 n (λ i. refl)) in
+    let stage = with_rows (all_entries s) n other_actors (0 ∷ other_rounds) in
+    let appended : played opens (asking s) ≡ played_on s Queries opens (4 * n) stage ask =
+    goes_played s opens append ask 0 first_stage stage (all_go s) ∙ ap (λ (t : ℕ). played_on s Queries opens t stage ask) count in
     subst (λ (end : Result Stage ℕ). EndsIn (asked_lines s pairs 0 s.queries) (some_refused s pairs 0 s.queries) end) (sym appended)
     (all_queries s opens pairs (all_entries s) (all_numbers s) other_actors other_rounds (prefix-numbers_below n) opened s.queries (4 * n) 0 Unfixed [] false tt same
     (λ k. ap (slice_get s.queries) (from_none k)))

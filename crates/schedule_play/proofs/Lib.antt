@@ -12,4 +12,6 @@ pub mod Outcomes
 pub mod Plainly
 pub mod Readying
 pub mod RowNumbers
+pub mod Seeding
 pub mod Single
+pub mod Unasked

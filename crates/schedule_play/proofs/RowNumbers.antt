@@ -1,15 +1,26 @@
 -- The journal 0, 1, .., n - 1.
-use Rattle.std.proofs.Common.{◌≡◌, ◌∙◌, refl, ap, ℕ, zero, suc, ◌+◌, ◌<◌, ◌≤◌, ⊎_elim, true, false, List, [], ◌∷◌, ◌++◌, length, length-append, arith}
+use Rattle.std.proofs.Common.{◌≡◌, ◌∙◌, refl, sym, ap, ℕ, zero, suc, ◌+◌, ◌<◌, ◌≤◌, ⊎_elim, true, false, List, [], ◌∷◌, ◌++◌, length, length-append, arith}
 use Rattle.std.proofs.lemmas.Bool.{cases_lt}
 use Rattle.std.proofs.lemmas.Bool.Decides.{nat_tests}
+use Rattle.std.specs.List.{range_with_len}
 use Rattle.list_facts.specs.Count.{times, has}
 use Rattle.list_facts.proofs.Count.{times-append, has_from, has_from_none}
 use Rattle.waldo_core.specs.Core.{gap_from, prefix}
+use Rattle.schedule_play.proofs.Loops.{range_both}
 
 -- the numbers below n, in order
 abbrev pub numbers_below : ℕ → List ℕ
 numbers_below zero = []
 numbers_below (suc n) = numbers_below n ++ n ∷ []
+
+-- the same list, made from its first number on
+pub numbers_are : (n : ℕ) → numbers_below n ≡ range_with_len 0 n
+numbers_are zero = refl
+numbers_are (suc n) =
+    let none : 0 + n ≡ n = omega arith in
+    let on : n + 1 ≡ suc n = omega arith in
+    ap (λ (l : List ℕ). l ++ n ∷ []) (numbers_are n) ∙ ap (λ (m : ℕ). range_with_len 0 n ++ m ∷ []) (sym none)
+    ∙ sym (range_both 0 n 1) ∙ ap (range_with_len 0) on
 
 length-numbers_below : (n : ℕ) → length (numbers_below n) ≡ n
 length-numbers_below zero = refl

@@ -1,3 +1,4 @@
+pub mod Appended
 pub mod History
 pub mod Laws
 pub mod Plain

@@ -2,6 +2,7 @@
 //!
 //! A command comes down to a list of steps: `ask` appends each row as actor 0 and then fixes three times and answers for
 //! each query; `replay` has its schedule. Each step is an event of the machine. The first step without a case ends the run.
+//! The rows of `ask` are appended by the machine's workers in one call, which comes to what their steps come to.
 //!
 //! The contract of both calls is one fact, `Plays`: there is a history of the steps, in which each answer has the messages
 //! of its query and the pair that they opened; each actor's wire carried just the messages of its answers; over a wire that
@@ -20,6 +21,7 @@
 //! ```
 #![tactic(auto)]
 
+mod entries;
 pub mod laws;
 mod play;
 mod progress;

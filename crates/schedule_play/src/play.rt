@@ -1,10 +1,10 @@
 //! Steps on a machine and over wires.
-ghost use Rattle.std.specs.Prelude.{◌≡◌, ◌+◌, ◌*◌, ◌^◌, ◌<◌, ◌≤◌, ℕ, IfErr, OnOk, length};
+ghost use Rattle.std.specs.Prelude.{◌≡◌, ◌^◌, ◌<◌, ◌≤◌, IfErr, OnOk, length};
 ghost use Rattle.std.specs.List.{flat_map, range_with_len};
 ghost use Rattle.schedule_play.specs.Leads.{Leads, Stops};
 ghost use Rattle.schedule_play.specs.Plays.{Plays, seen};
 ghost use Rattle.schedule_play.specs.Ready.{IsReady, stage_of};
-ghost use Rattle.schedule_play.specs.Tasks.{IsSetting, append_steps, ask_steps, asking, scheduled};
+ghost use Rattle.schedule_play.specs.Tasks.{IsSetting, ask_steps, asking, scheduled};
 ghost use Rattle.schedule_play.specs.Wires.{WiresWent};
 ghost use Rattle.wire_line.specs.Lists.{RoseAt};
 ghost use Rattle.schedule_play.specs.declared.style.Style.TheVariants as styles;
@@ -42,45 +42,6 @@ impl From<Memory> for PlayFault {
     fn from(_e: Memory) -> PlayFault {
         PlayFault::Memory
     }
-}
-
-// Appends each row: actor 0 draws it and places it at each server.
-fn append_rows<R: Threads + Sync, W: Wire>(
-    progress: &mut Progress,
-    rt: &R,
-    alloc: Global,
-    setting: &Setting<'_>,
-    wires: &mut Vec<W>,
-) -> Result<(), PlayFault>
-    requires legal { IsSetting setting.now.widths (seen setting.now) }
-    requires ready { IsReady setting.now.widths (seen setting.now) progress.old }
-    requires first { progress.old.done ≡ 0 }
-    requires wires { length wires.old.items ≡ 16 }
-    ensures wires { length wires.new.items ≡ 16 }
-    ensures ready { OnOk result (IsReady setting.now.widths (seen setting.now) progress.new) }
-    ensures done { OnOk result (progress.new.done ≡ 4 * length setting.now.rows.now) }
-    ensures leads { OnOk result (Leads W.told W.alterations W.passes setting.now.widths (seen setting.now) styles.Queries (stage_of progress.old) wires.old.items (flat_map (λ (row : ℕ). append_steps) (range_with_len 0 (length setting.now.rows.now))) (stage_of progress.new) wires.new.items) }
-    ensures stops { IfErr result (Stops W.told W.alterations W.passes setting.now.widths (seen setting.now) styles.Queries progress.old.done (stage_of progress.old) wires.old.items (flat_map (λ (row : ℕ). append_steps) (range_with_len 0 (length setting.now.rows.now))) wires.new.items) }
-{
-    let steps = [
-        Step::Draw { actor: 0 },
-        Step::Place {
-            actor: 0,
-            server: 0,
-        },
-        Step::Place {
-            actor: 0,
-            server: 1,
-        },
-        Step::Place {
-            actor: 0,
-            server: 2,
-        },
-    ];
-    for _row in 0..setting.rows.len() {
-        progress.steps(rt, alloc, setting, Style::Queries, &steps, wires)?;
-    }
-    Ok(())
 }
 
 // Asks each query: actor 0 fixes three times and answers.
@@ -131,8 +92,8 @@ pub fn ask<R: Threads + Sync, W: Wire>(
     ensures wires { length wires.new.items ≡ 16 }
     ensures plays { Plays setting.now.widths (asking (seen setting.now)) (λ history. WiresWent W.told W.alterations W.passes history 0 wires.old.items wires.new.items) (λ actor. ¬ RoseAt W.alterations actor wires.old.items wires.new.items) result }
 {
-    let mut progress = Progress::new(alloc, setting)?;
-    append_rows(&mut progress, rt, alloc, setting, wires)?;
+    let mut progress = Progress::new(rt, alloc, setting)?;
+    progress.append_rows(rt, alloc, setting)?;
     ask_queries(&mut progress, rt, alloc, setting, wires)?;
     Ok(progress.into_played())
 }
@@ -153,7 +114,7 @@ pub fn replay<R: Threads + Sync, W: Wire>(
     ensures wires { length wires.new.items ≡ 16 }
     ensures plays { Plays setting.now.widths (scheduled (seen setting.now) schedule.now) (λ history. WiresWent W.told W.alterations W.passes history 0 wires.old.items wires.new.items) (λ actor. ¬ RoseAt W.alterations actor wires.old.items wires.new.items) result }
 {
-    let mut progress = Progress::new(alloc, setting)?;
+    let mut progress = Progress::new(rt, alloc, setting)?;
     progress.steps(rt, alloc, setting, Style::Rounds, schedule, wires)?;
     Ok(progress.into_played())
 }

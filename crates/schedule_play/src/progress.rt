@@ -1,11 +1,13 @@
 //! A machine on which steps are done one after another, and what is reported of them.
-ghost use Rattle.std.specs.Prelude.{ℕ, ◌≡◌, ◌+◌, ◌^◌, ◌<◌, ◌≤◌, [], ◌∷◌, ◌++◌, if◌then◌else◌, IfErr, IfOk, OnErr, OnOk, length, option_to_list, slice_get, slice_set, slice_index_or};
+ghost use Rattle.std.specs.Prelude.{ℕ, ◌≡◌, ◌+◌, ◌*◌, ◌^◌, ◌<◌, ◌≤◌, [], ◌∷◌, ◌++◌, if◌then◌else◌, IfErr, IfOk, OnErr, OnOk, length, option_to_list, slice_get, slice_set, slice_index_or};
+ghost use Rattle.schedule_play.specs.Appended.{stage_with_rows};
 ghost use Rattle.schedule_play.specs.Leads.{Leads, Stops};
 ghost use Rattle.schedule_play.specs.Plays.{seen};
 ghost use Rattle.schedule_play.specs.Stages.{actor_in, event_of, first_stage, is_asked, lines_of, with_reply};
 ghost use Rattle.waldo_core.specs.Step.{is_altered};
 ghost use Rattle.schedule_play.specs.Tasks.{IsSetting};
 
+use crate::entries::seeded;
 use crate::play::{PlayFault, Played};
 use crate::setting::Setting;
 use crate::steps::{actor_in, is_altered, is_asked, is_drawn, line_of};
@@ -39,7 +41,11 @@ impl Progress {
     ghost use Rattle.schedule_play.specs.Ready.{IsReady, is_drawn, stage_of};
 
     /// Before the first step.
-    pub(crate) fn new(alloc: Global, setting: &Setting<'_>) -> Result<Progress, Memory>
+    pub(crate) fn new<R: Threads + Sync>(
+        rt: &R,
+        alloc: Global,
+        setting: &Setting<'_>,
+    ) -> Result<Progress, Memory>
         requires legal { IsSetting setting.now.widths (seen setting.now) }
         requires some { 1 ≤ setting.now.workers }
         requires few { setting.now.workers ≤ 16 }
@@ -48,7 +54,7 @@ impl Progress {
         ensures done { IfOk result (λ p. p.done ≡ 0) }
     {
         let capacity = setting.rows.len().max(1) as u32;
-        match Machine::new(alloc, setting.widths, capacity, setting.workers) {
+        match Machine::new_by_workers(rt, alloc, setting.widths, capacity, setting.workers) {
             Ok(machine) => Ok(Progress {
                 machine,
                 rounds: [0; 16],
@@ -59,6 +65,34 @@ impl Progress {
             }),
             Err(_) => Err(Memory),
         }
+    }
+
+    /// Appends all rows, if there are any, before any other step: actor 0 draws each and places it at each server, one row after
+    /// another. The machine's workers do it. The only error is out of memory.
+    pub(crate) fn append_rows<R: Threads + Sync>(
+        &mut self,
+        rt: &R,
+        alloc: Global,
+        setting: &Setting<'_>,
+    ) -> Result<(), Memory>
+        requires legal { IsSetting setting.now.widths (seen setting.now) }
+        requires some { 1 ≤ setting.now.workers }
+        requires ready { IsReady setting.now.widths (seen setting.now) self.old }
+        requires first { stage_of self.old ≡ first_stage }
+        requires none { self.old.done ≡ 0 }
+        ensures ready { OnOk result (IsReady setting.now.widths (seen setting.now) self.new) }
+        ensures stage { OnOk result (stage_of self.new ≡ stage_with_rows (seen setting.now)) }
+        ensures done { OnOk result (self.new.done ≡ 4 * length setting.now.rows.now) }
+    {
+        if setting.rows.is_empty() {
+            return Ok(());
+        }
+        let workers = usize::from(setting.workers);
+        let entries = seeded(rt, alloc, setting.rows, &setting.master, workers)?;
+        self.machine.append_rows(rt, alloc, entries.as_slice())?;
+        self.drawn = setting.rows.len() as u64;
+        self.done = 4 * self.drawn;
+        Ok(())
     }
 
     /// What all steps came to.

@@ -1,4 +1,5 @@
 //! The logs of the three servers.
+ghost use denote.Param.Send.{IsSync};
 ghost use Rattle.std.specs.Prelude.{◌≡◌, ◌<◌, ◌≤◌, All, IfOk, OnErr, OnOk, length};
 ghost use Rattle.std.specs.Option.{ForSome};
 ghost use Rattle.table_schema.specs.Widths.{Fits, Holds, column_bits};
@@ -14,7 +15,7 @@ use prefix_log::{Entry, ServerLog, Snapshot, append_rows};
 use ring128::Memory;
 use scan_chunks::Shelf;
 use std::alloc::Global;
-use std::thread::Threads;
+use std::thread::{Threads, join};
 use table_schema::Widths;
 
 /// The logs of servers 0, 1 and 2.
@@ -37,6 +38,31 @@ impl Logs {
             zero: ServerLog::new(alloc, 0, widths, capacity)?,
             one: ServerLog::new(alloc, 1, widths, capacity)?,
             two: ServerLog::new(alloc, 2, widths, capacity)?,
+        })
+    }
+
+    /// The same. Where there are several workers, each log is made in a thread of its own if one can be made, which then is the first to
+    /// touch its memory.
+    pub(crate) fn by_workers<R: Threads + Sync>(
+        rt: &R,
+        alloc: Global,
+        widths: &Widths,
+        capacity: u32,
+        workers: u8,
+    ) -> Result<Logs, Memory>
+        requires { Fits (column_bits widths.now) capacity }
+        ensures zero { IfOk result (λ logs. logs.zero ≡ empty_log 0 widths.now capacity) }
+        ensures one { IfOk result (λ logs. logs.one ≡ empty_log 1 widths.now capacity) }
+        ensures two { IfOk result (λ logs. logs.two ≡ empty_log 2 widths.now capacity) }
+    {
+        if workers < 2 {
+            return Logs::new(alloc, widths, capacity);
+        }
+        let (zero, (one, two)) = side_by_side(rt, alloc, widths, capacity);
+        Ok(Logs {
+            zero: zero?,
+            one: one?,
+            two: two?,
         })
     }
 
@@ -114,4 +140,52 @@ impl Logs {
             _ => self.two.fix(alloc),
         }
     }
+}
+
+// A log of each server.
+fn side_by_side<R: Threads + Sync>(
+    rt: &R,
+    alloc: Global,
+    widths: &Widths,
+    capacity: u32,
+) -> (
+    Result<ServerLog, Memory>,
+    (Result<ServerLog, Memory>, Result<ServerLog, Memory>),
+)
+    requires { Fits (column_bits widths.now) capacity }
+    ensures zero { IfOk result.0 (λ log. log ≡ empty_log 0 widths.now capacity) }
+    ensures one { IfOk result.1.0 (λ log. log ≡ empty_log 1 widths.now capacity) }
+    ensures two { IfOk result.1.1 (λ log. log ≡ empty_log 2 widths.now capacity) }
+{
+    let zero = || -> Result<ServerLog, Memory>
+        requires { Fits (column_bits widths.now) capacity }
+        ensures { IfOk result (λ log. log ≡ empty_log 0 widths.entry.now capacity) }
+    { ServerLog::new(alloc, 0, widths, capacity) };
+    let others = || -> (Result<ServerLog, Memory>, Result<ServerLog, Memory>)
+        requires { IsSync R.row × Fits (column_bits widths.now) capacity }
+        ensures { IfOk result.0 (λ log. log ≡ empty_log 1 widths.entry.now capacity) × IfOk result.1 (λ log. log ≡ empty_log 2 widths.entry.now capacity) }
+    { one_and_two(rt, alloc, widths, capacity) };
+    join(rt, zero, others)
+}
+
+// A log of server 1 and one of server 2.
+fn one_and_two<R: Threads + Sync>(
+    rt: &R,
+    alloc: Global,
+    widths: &Widths,
+    capacity: u32,
+) -> (Result<ServerLog, Memory>, Result<ServerLog, Memory>)
+    requires { Fits (column_bits widths.now) capacity }
+    ensures one { IfOk result.0 (λ log. log ≡ empty_log 1 widths.now capacity) }
+    ensures two { IfOk result.1 (λ log. log ≡ empty_log 2 widths.now capacity) }
+{
+    let one = || -> Result<ServerLog, Memory>
+        requires { Fits (column_bits widths.now) capacity }
+        ensures { IfOk result (λ log. log ≡ empty_log 1 widths.entry.now capacity) }
+    { ServerLog::new(alloc, 1, widths, capacity) };
+    let two = || -> Result<ServerLog, Memory>
+        requires { Fits (column_bits widths.now) capacity }
+        ensures { IfOk result (λ log. log ≡ empty_log 2 widths.entry.now capacity) }
+    { ServerLog::new(alloc, 2, widths, capacity) };
+    join(rt, one, two)
 }

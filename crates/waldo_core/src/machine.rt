@@ -3,6 +3,7 @@ ghost use Rattle.std.specs.Prelude.{◌≡◌, ◌≤◌, List, All, IfOk, IfErr
 ghost use Rattle.fault_count.specs.Causes.{Rose};
 ghost use Rattle.list_facts.specs.Listed.{listed};
 ghost use Rattle.table_schema.specs.Widths.{Fits, Holds, column_bits};
+ghost use Rattle.prefix_log.specs.Logs.{empty_log};
 ghost use Rattle.server_rounds.specs.declared.opened.OpenedPair.{OpenedPair};
 ghost use Rattle.wire_line.specs.Messages.{IsHonest, Went};
 ghost use Rattle.wire_line.specs.declared.message.Message.{Message};
@@ -83,30 +84,61 @@ impl Machine {
                 had: widths.cells(capacity),
             });
         }
-        match Machine::fitting(alloc, &widths, capacity, workers) {
+        let logs = Logs::new(alloc, &widths, capacity);
+        match Machine::fitting(alloc, &widths, capacity, workers, logs) {
             Ok(machine) => Ok(machine),
             Err(_) => Err(OpenFault::Memory),
         }
     }
 
-    // The same for a capacity that fits.
+    /// The same machine. Where it has several workers, the three logs are made side by side.
+    pub fn new_by_workers<R: Threads + Sync>(
+        rt: &R,
+        alloc: Global,
+        widths: Widths,
+        capacity: u32,
+        workers: u8,
+    ) -> Result<Machine, OpenFault>
+        requires some { 1 ≤ workers }
+        requires few { workers ≤ 16 }
+        ensures made { IfOk result (λ m. m ≡ new_machine widths capacity) }
+        ensures fits { IfOk result (λ m. Fits (column_bits widths) capacity) }
+        ensures fault { IfErr result (HasOpenFault widths capacity) }
+    {
+        if !widths.fits(capacity) {
+            return Err(OpenFault::Cells {
+                had: widths.cells(capacity),
+            });
+        }
+        let logs = Logs::by_workers(rt, alloc, &widths, capacity, workers);
+        match Machine::fitting(alloc, &widths, capacity, workers, logs) {
+            Ok(machine) => Ok(machine),
+            Err(_) => Err(OpenFault::Memory),
+        }
+    }
+
+    // The machine of these logs, which have no pieces, for a capacity that fits.
     fn fitting(
         alloc: Global,
         widths: &Widths,
         capacity: u32,
         workers: u8,
+        logs: Result<Logs, Memory>,
     ) -> Result<Machine, Memory>
         requires some { 1 ≤ workers }
         requires few { workers ≤ 16 }
         requires fits { Fits (column_bits widths.now) capacity }
+        requires zero { IfOk logs (λ l. l.zero ≡ empty_log 0 widths.now capacity) }
+        requires one { IfOk logs (λ l. l.one ≡ empty_log 1 widths.now capacity) }
+        requires two { IfOk logs (λ l. l.two ≡ empty_log 2 widths.now capacity) }
         ensures { IfOk result (λ m. m ≡ new_machine widths.now capacity) }
     {
         Ok(Machine {
             widths: *widths,
             capacity,
             workers,
+            logs: logs?,
             order: Order::new(alloc, capacity)?,
-            logs: Logs::new(alloc, widths, capacity)?,
             actors: fresh_actors(alloc)?,
         })
     }

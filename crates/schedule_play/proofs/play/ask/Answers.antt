@@ -8,7 +8,8 @@ use Rattle.schedule_play.specs.Ready.{stage_of}
 use Rattle.schedule_play.specs.Tasks.{append_steps, ask_steps, asking}
 use Rattle.schedule_play.specs.declared.style.Style.TheVariants.{Queries}
 use Rattle.schedule_play.proofs.Loops.{length-parts}
-use Rattle.schedule_play.proofs.Outcomes.{leads_both, leads_plays, leads_stops, nothing_plays, stops_more, stops_plays}
+use Rattle.schedule_play.proofs.Outcomes.{leads_both, leads_plays, leads_stops, nothing_plays, stops_plays}
+use Rattle.schedule_play.proofs.Unasked.{rows_lead}
 use Rattle.schedule_play.proofs.play.ask.Goals as goal
 
 -- the steps that append, and those that ask
@@ -27,36 +28,39 @@ returns-in_err-progress-clause-plays g c =
 pub returns-in_err-append_rows-clause-plays : goal.returns-in_err-append_rows-clause-plays
 returns-in_err-append_rows-clause-plays g c =
     let p = err_from_is_err_and c.from_residual-in_err-append_rows.result c.from_residual-in_err-append_rows.ensures.1 in
-    let s = seen c.args.setting.now in
     rw (p.1, p.2)
-    (stops_plays g.W.Wire.told g.W.Wire.alterations g.W.Wire.passes c.args.setting.now.widths (asking s) c.args.wires.now.items
-    c.append_rows.new.wires.items c.in_ok-progress.progress.done (stage_of c.in_ok-progress.progress) _ c.in_ok-progress.ensures.done c.in_ok-progress.ensures.stage
-    (stops_more g.W.Wire.told g.W.Wire.alterations g.W.Wire.passes c.args.setting.now.widths s Queries c.in_ok-progress.progress.done (stage_of c.in_ok-progress.progress)
-    c.args.wires.now.items c.append_rows.new.wires.items (appended (length s.rows)) (asked (length s.queries)) _ c.in_err-append_rows.ensures.stops))
+    (nothing_plays g.W.Wire.told g.W.Wire.alterations g.W.Wire.passes c.args.setting.now.widths (asking (seen c.args.setting.now)) _ _ g.met.W.Wire.none_passes refl)
 
 pub returns-in_err-ask_queries-clause-plays : goal.returns-in_err-ask_queries-clause-plays
 returns-in_err-ask_queries-clause-plays g c =
     let p = err_from_is_err_and c.from_residual-in_err-ask_queries.result c.from_residual-in_err-ask_queries.ensures.1 in
     let s = seen c.args.setting.now in
     let w = c.args.setting.now.widths in
-    let count : c.append_rows.new.progress.done ≡ c.in_ok-progress.progress.done + length (appended (length s.rows)) =
+    let vs = c.args.wires.now.items in
+    let first = stage_of c.in_ok-progress.progress in
+    let mid = stage_of c.append_rows.new.self in
+    let count : c.append_rows.new.self.done ≡ c.in_ok-progress.progress.done + length (appended (length s.rows)) =
     omega (arith, c.in_ok-append_rows.ensures.done, c.in_ok-progress.ensures.done, length-parts (λ (row : ℕ). append_steps) 4 0 (length s.rows) (λ i. refl)) in
     rw (p.1, p.2)
-    (stops_plays g.W.Wire.told g.W.Wire.alterations g.W.Wire.passes w (asking s) c.args.wires.now.items
-    c.ask_queries.new.wires.items c.in_ok-progress.progress.done (stage_of c.in_ok-progress.progress) _ c.in_ok-progress.ensures.done c.in_ok-progress.ensures.stage
-    (leads_stops g.W.Wire.told g.W.Wire.alterations g.W.Wire.passes w s Queries g.met.W.Wire.both_pass c.in_ok-progress.progress.done (stage_of c.in_ok-progress.progress)
-    (stage_of c.append_rows.new.progress) c.args.wires.now.items c.append_rows.new.wires.items c.ask_queries.new.wires.items (appended (length s.rows)) (asked (length s.queries)) _
-    c.in_ok-append_rows.ensures.leads
-    (subst (λ (t : ℕ). Stops g.W.Wire.told g.W.Wire.alterations g.W.Wire.passes w s Queries t (stage_of c.append_rows.new.progress) c.append_rows.new.wires.items
+    (stops_plays g.W.Wire.told g.W.Wire.alterations g.W.Wire.passes w (asking s) vs
+    c.ask_queries.new.wires.items c.in_ok-progress.progress.done first _ c.in_ok-progress.ensures.done c.in_ok-progress.ensures.stage
+    (leads_stops g.W.Wire.told g.W.Wire.alterations g.W.Wire.passes w s Queries g.met.W.Wire.both_pass c.in_ok-progress.progress.done first
+    mid vs vs c.ask_queries.new.wires.items (appended (length s.rows)) (asked (length s.queries)) _
+    (rows_lead g.W.Wire.told g.W.Wire.alterations g.W.Wire.passes g.met.W.Wire.none_passes w s first mid vs c.in_ok-progress.ensures.stage c.in_ok-append_rows.ensures.stage)
+    (subst (λ (t : ℕ). Stops g.W.Wire.told g.W.Wire.alterations g.W.Wire.passes w s Queries t mid vs
     (asked (length s.queries)) c.ask_queries.new.wires.items c.in_err-ask_queries.field-0.0) count c.in_err-ask_queries.ensures.stops)))
 
 pub returns-clause-plays : goal.returns-clause-plays
 returns-clause-plays g c =
     let s = seen c.args.setting.now in
     let w = c.args.setting.now.widths in
-    leads_plays g.W.Wire.told g.W.Wire.alterations g.W.Wire.passes w (asking s) c.args.wires.now.items
-    c.ask_queries.new.wires.items (stage_of c.in_ok-progress.progress) (stage_of c.ask_queries.new.progress) c.into_played.result c.in_ok-progress.ensures.stage
-    (leads_both g.W.Wire.told g.W.Wire.alterations g.W.Wire.passes w s Queries g.met.W.Wire.both_pass (stage_of c.in_ok-progress.progress) (stage_of c.append_rows.new.progress)
-    (stage_of c.ask_queries.new.progress) c.args.wires.now.items c.append_rows.new.wires.items c.ask_queries.new.wires.items (appended (length s.rows)) (asked (length s.queries))
-    c.in_ok-append_rows.ensures.leads c.in_ok-ask_queries.ensures.leads)
+    let vs = c.args.wires.now.items in
+    let first = stage_of c.in_ok-progress.progress in
+    let mid = stage_of c.append_rows.new.self in
+    leads_plays g.W.Wire.told g.W.Wire.alterations g.W.Wire.passes w (asking s) vs
+    c.ask_queries.new.wires.items first (stage_of c.ask_queries.new.progress) c.into_played.result c.in_ok-progress.ensures.stage
+    (leads_both g.W.Wire.told g.W.Wire.alterations g.W.Wire.passes w s Queries g.met.W.Wire.both_pass first mid
+    (stage_of c.ask_queries.new.progress) vs vs c.ask_queries.new.wires.items (appended (length s.rows)) (asked (length s.queries))
+    (rows_lead g.W.Wire.told g.W.Wire.alterations g.W.Wire.passes g.met.W.Wire.none_passes w s first mid vs c.in_ok-progress.ensures.stage c.in_ok-append_rows.ensures.stage)
+    c.in_ok-ask_queries.ensures.leads)
     c.into_played.ensures.report c.into_played.ensures.altered
