@@ -32,6 +32,3 @@ mod style;
 pub use play::{PlayFault, Played, ask, replay};
 pub use setting::Setting;
 pub use style::Style;
-
-#[cfg(test)]
-mod tests;

@@ -46,6 +46,3 @@ pub use run::{both_runs, run_products};
 pub use servers::Servers;
 pub use shelves::count_rows;
 pub use way::Way;
-
-#[cfg(test)]
-mod tests;

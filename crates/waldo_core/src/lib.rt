@@ -31,6 +31,3 @@ mod snapshots;
 
 pub use events::{Event, Reply, StepFault};
 pub use machine::Machine;
-
-#[cfg(test)]
-mod tests;

@@ -1,11 +1,11 @@
 ghost use Rattle.std.specs.Prelude.{◌≡◌, ◌<◌, ◌*◌, length, map, slice_index, IfOk};
 ghost use Rattle.server_rounds.specs.Shelves.{AreShelves};
 
-use super::*;
 use prg_chacha::Seed;
 use query_plan::{Keys, Predicate, Query, make_keys};
 use ring128::{Memory, Words, add, mul, sub};
 use scan_chunks::{Column, OwnedShelf, Shelf};
+use server_rounds::*;
 use std::alloc::Global;
 use std::process::Abort;
 use std::thread::Threads;

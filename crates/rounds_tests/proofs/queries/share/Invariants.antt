@@ -1,5 +1,5 @@
 use Rattle.std.proofs.Common.{◌≡◌, length}
-use Rattle.server_rounds.proofs.tests.share.Given as goal
+use Rattle.rounds_tests.proofs.queries.share.Given as goal
 
 abbrev pub invariant-loop-number : goal.invariant-loop-number
 invariant-loop-number l = length l.words.items ≡ l.number-index

@@ -1,6 +1,5 @@
 ghost use Rattle.std.specs.Prelude.{◌≡◌};
 
-use super::*;
 use prefix_log::OpenFault;
 use prg_chacha::Seed;
 use query_plan::{Predicate, Query};
@@ -9,6 +8,7 @@ use std::process::Abort;
 use std::test::Fail;
 use std::thread::Threads;
 use table_schema::{Aggregate, Kind, Row, Widths};
+use waldo_core::*;
 use wire_line::StraightWire;
 
 // One column of four buckets.

@@ -1,10 +1,10 @@
 ghost use Rattle.std.specs.Prelude.{◌≡◌, ◌≤◌, length};
 
-use super::{PlayFault, Played, Setting, ask, replay};
 use prg_chacha::Seed;
 use query_plan::read_query;
 use report_lines::text;
 use ring128::Memory;
+use schedule_play::{PlayFault, Played, Setting, ask, replay};
 use std::alloc::Global;
 use std::process::Abort;
 use std::test::Fail;
