@@ -30,8 +30,8 @@ lacked q k had [] misses t = refl
 lacked q k had (p ∷ places) misses t =
     let rest = lacked q k had places misses t.1 in
     let one : times had (p ∷ []) ≡ 0 = dite (ℕ_discrete had p)
-        (λ e. let yes : has p (seat_of k q).seen ≡ true = there_at q k p t.0 in let same : has had (seat_of k q).seen ≡ has p (seat_of k q).seen = ap (λ (x : ℕ). has x (seat_of k q).seen) e in absurd cc)
-        (λ ne. grind (arith, nat_tests)) in
+    (λ e. let yes : has p (seat_of k q).seen ≡ true = there_at q k p t.0 in let same : has had (seat_of k q).seen ≡ has p (seat_of k q).seen = ap (λ (x : ℕ). has x (seat_of k q).seen) e in absurd cc)
+    (λ ne. grind (arith, nat_tests)) in
     let sum = times-append had (p ∷ []) places in omega arith
 
 module _ (rows : List Row) (master : Seed) (many : ℕ) (order : List (Row × Seed)) (places : List (List ℕ)) (printed : List ℕ) (stands : Stands rows master many order places printed)

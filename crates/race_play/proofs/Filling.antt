@@ -83,7 +83,7 @@ filled_at blank xs [] ps i a free once h = absurd h
 filled_at blank xs (x ∷ is) [] i a free once h = absurd h
 filled_at blank xs (x ∷ is) (p ∷ ps) i a free once h = ⊎_elim
     (λ (e : (i ≡ x) × (a ≡ p)). subst (λ (y : ℕ). slice_get (filled (set xs p x) is ps) y ≡ Some i) (sym e.1)
-        (filled_keeps (set xs p x) is ps p (rest_once p ps once).0 ∙ get_set xs p x blank (free p (let h' = here_once p ps in omega arith)) ∙ ap (λ (y : ℕ). Some y) (sym e.0)))
+    (filled_keeps (set xs p x) is ps p (rest_once p ps once).0 ∙ get_set xs p x blank (free p (let h' = here_once p ps in omega arith)) ∙ ap (λ (y : ℕ). Some y) (sym e.0)))
     (λ (t : InPair is ps i a). filled_at blank (set xs p x) is ps i a (free_rest blank xs p x ps once free) (rest_once p ps once).1 t) h
 
 -- a place that is there has a row

@@ -81,8 +81,8 @@ module _ {V : Type 0} (items : V → List ℕ) (rows : List Row) (master : Seed)
   taken_ended is grows others h =
       let at : n ≡ 0 + length (map items xs) = let l = length-map xs items in omega arith in
       subst (λ (ps : List (List ℕ)). HaveEnded rows master writers p' 0 ps ls') (sym mapped) (subst (λ (l : List Line). HaveEnded rows master writers p' 0 (map items xs ++ items v ∷ []) l) (sym more_lines)
-          (ended_snoc rows master writers p' 0 (map items xs) ls (items v) line q (ended_more rows master writers p p' 0 (map items xs) ls grows h)
-          (subst (λ (k : ℕ). Ended rows master writers k (items v) line q) at e) others))
+      (ended_snoc rows master writers p' 0 (map items xs) ls (items v) line q (ended_more rows master writers p p' 0 (map items xs) ls grows h)
+      (subst (λ (k : ℕ). Ended rows master writers k (items v) line q) at e) others))
 
 -- ---- the three servers have all rows
 

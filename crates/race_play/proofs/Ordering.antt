@@ -50,7 +50,7 @@ turns_mod : (w many n i : ℕ) → 0 < times i (turns w many n) → i % many ≡
 turns_mod w many zero i lt = absurd (omega arith)
 turns_mod w many (suc n) i lt = dite (ℕ_discrete (n % many) w)
     (λ e. dite (ℕ_discrete i n) (λ same. ap (λ (k : ℕ). k % many) same ∙ e)
-        (λ ne. turns_mod w many n i (let all = ap (times i) (turns_yes w many n e) in let sum = times-append i (turns w many n) (n ∷ []) in let none : times i (n ∷ []) ≡ 0 = grind (arith, nat_tests) in omega arith)))
+    (λ ne. turns_mod w many n i (let all = ap (times i) (turns_yes w many n e) in let sum = times-append i (turns w many n) (n ∷ []) in let none : times i (n ∷ []) ≡ 0 = grind (arith, nat_tests) in omega arith)))
     (λ ne. turns_mod w many n i (let all = ap (times i) (turns_no w many n ne) in omega arith))
 
 -- ---- pairs in rising lists
@@ -70,11 +70,11 @@ pair_rising low down [] ps i j a b r s h k lt = absurd h
 pair_rising low down (x ∷ is) [] i j a b r s h k lt = absurd h
 pair_rising low down (x ∷ is) (p ∷ ps) i j a b r s h k lt = ⊎_elim
     (λ (e : (i ≡ x) × (a ≡ p)). ⊎_elim
-        (λ (f : (j ≡ x) × (b ≡ p)). let u = e.1 in let v = f.1 in absurd (omega arith))
-        (λ (t : InPair is ps j b). let up = row_above (x + 1) is ps j b r.1 t in let u = e.0 in omega arith) k)
+    (λ (f : (j ≡ x) × (b ≡ p)). let u = e.1 in let v = f.1 in absurd (omega arith))
+    (λ (t : InPair is ps j b). let up = row_above (x + 1) is ps j b r.1 t in let u = e.0 in omega arith) k)
     (λ (t : InPair is ps i a). ⊎_elim
-        (λ (f : (j ≡ x) × (b ≡ p)). let up = place_above (p + 1) is ps i a s.1 t in let v = f.1 in absurd (omega arith))
-        (λ (u : InPair is ps j b). pair_rising (x + 1) (p + 1) is ps i j a b r.1 s.1 t u lt) k) h
+    (λ (f : (j ≡ x) × (b ≡ p)). let up = place_above (p + 1) is ps i a s.1 t in let v = f.1 in absurd (omega arith))
+    (λ (u : InPair is ps j b). pair_rising (x + 1) (p + 1) is ps i j a b r.1 s.1 t u lt) k) h
 
 -- ---- all writers
 
@@ -139,8 +139,8 @@ module _ (rows : List Row) (master : Seed) (many : ℕ) (order : List (Row × Se
   all_at blank xs w (ps ∷ more) i a free once h =
       let is = turns w many (length rows) in ⊎_elim
       (λ (t : InPair is ps i a).
-          let there = in_times is ps i a t in let o = once a in let sum = times-append a ps (all_places more) in
-          all_kept (filled xs is ps) (suc w) more a (omega arith) ∙ filled_at blank xs is ps i a (free_left blank xs ps (all_places more) free) (once_left ps (all_places more) once) t)
+      let there = in_times is ps i a t in let o = once a in let sum = times-append a ps (all_places more) in
+      all_kept (filled xs is ps) (suc w) more a (omega arith) ∙ filled_at blank xs is ps i a (free_left blank xs ps (all_places more) free) (once_left ps (all_places more) once) t)
       (λ (t : InWriter (suc w) more i a). all_at blank (filled xs is ps) (suc w) more i a (free_right blank xs is ps (all_places more) once free) (once_right ps (all_places more) once) t) h
 
   all_in : (w : ℕ) (places : List (List ℕ)) (a : ℕ) → Written w places → 0 < times a (all_places places) → (i : ℕ) × InWriter w places i a
@@ -175,11 +175,11 @@ module _ (rows : List Row) (master : Seed) (many : ℕ) (order : List (Row × Se
   rising_in w (ps ∷ more) i j a b h t u same lt =
       let is = turns w many (length rows) in ⊎_elim
       (λ (p : InPair is ps i a). ⊎_elim
-          (λ (q : InPair is ps j b). pair_rising 0 0 is ps i j a b (turns_rising w many (length rows)) h.1 p q lt)
-          (λ (q : InWriter (suc w) more j b). let e = turns_mod w many (length rows) i (in_row is ps i a p) in let l = later (suc w) more j b q in absurd (omega arith)) u)
+      (λ (q : InPair is ps j b). pair_rising 0 0 is ps i j a b (turns_rising w many (length rows)) h.1 p q lt)
+      (λ (q : InWriter (suc w) more j b). let e = turns_mod w many (length rows) i (in_row is ps i a p) in let l = later (suc w) more j b q in absurd (omega arith)) u)
       (λ (p : InWriter (suc w) more i a). ⊎_elim
-          (λ (q : InPair is ps j b). let e = turns_mod w many (length rows) j (in_row is ps j b q) in let l = later (suc w) more i a p in absurd (omega arith))
-          (λ (q : InWriter (suc w) more j b). rising_in (suc w) more i j a b h.2 p q same lt) u) t
+      (λ (q : InPair is ps j b). let e = turns_mod w many (length rows) j (in_row is ps j b q) in let l = later (suc w) more i a p in absurd (omega arith))
+      (λ (q : InWriter (suc w) more j b). rising_in (suc w) more i j a b h.2 p q same lt) u) t
 
   -- the places of a writer's rows are its own
   own_in : (w k : ℕ) (places : List (List ℕ)) (own : List ℕ) (i a : ℕ) → InWriter w places i a → i % many ≡ w + k → slice_get places k ≡ Some own → 0 < times a own
@@ -219,8 +219,8 @@ floor_last : (floor : ℕ) (ps : List ℕ) → (floor_over floor ps ≡ floor) �
 floor_last floor [] = inl refl
 floor_last floor (p ∷ ps) = ⊎_elim
     (λ (e : floor_over (max floor (p + 1)) ps ≡ max floor (p + 1)). ⊎_elim
-        (λ (same : max floor (p + 1) ≡ floor). inl (e ∙ same))
-        (λ (up : max floor (p + 1) ≡ p + 1). inr (p, here p ps, sym (e ∙ up))) (max_is floor (p + 1)))
+    (λ (same : max floor (p + 1) ≡ floor). inl (e ∙ same))
+    (λ (up : max floor (p + 1) ≡ p + 1). inr (p, here p ps, sym (e ∙ up))) (max_is floor (p + 1)))
     (λ (r : (a : ℕ) × (0 < times a ps) × (a + 1 ≡ floor_over (max floor (p + 1)) ps)). inr (r.0, (let some = r.1 in let sum = times-append r.0 (p ∷ []) ps in omega arith), r.2)) (floor_last (max floor (p + 1)) ps)
   where
     max_is : (a b : ℕ) → (max a b ≡ a) ⊎ (max a b ≡ b)
@@ -255,10 +255,10 @@ gathered_stands rows master many order places blanks g b = record {
     above = λ place i there turn. floor_above 0 own place (own_in rows master many order 0 w places own i place (found place i there) (let e = turn in omega arith) at);
     last = λ some. ⊎_elim (λ (e : floor_over 0 own ≡ 0). absurd (omega arith))
         (λ (r : (a : ℕ) × (0 < times a own) × (a + 1 ≡ floor_over 0 own)).
-            let t = in_own rows master many order 0 w places own r.0 g.wrote at r.1 in
-            let e = r.2 in let m = t.2 in
-            let spot : r.0 ≡ floor_over 0 own - 1 = omega arith in
-            (t.0, subst (λ (k : ℕ). At printed k t.0) spot (all_at rows master many order (length rows) blanks 0 places t.0 r.0 free once t.1), omega arith)) (floor_last 0 own);
+        let t = in_own rows master many order 0 w places own r.0 g.wrote at r.1 in
+        let e = r.2 in let m = t.2 in
+        let spot : r.0 ≡ floor_over 0 own - 1 = omega arith in
+        (t.0, subst (λ (k : ℕ). At printed k t.0) spot (all_at rows master many order (length rows) blanks 0 places t.0 r.0 free once t.1), omega arith)) (floor_last 0 own);
   };
   others = λ w own place i at there none turn. let some = own_in rows master many order 0 w places own i place (found place i there) (let e = turn in omega arith) at in absurd (omega arith);
 }

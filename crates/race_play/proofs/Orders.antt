@@ -56,7 +56,7 @@ module _ (rows : List Row) (master : Seed) (writers : ℕ) (order : List (Row ×
   entries_at w k [] own h at = absurd cc
   entries_at w zero (ps ∷ places) own h at =
       subst (λ (m : ℕ). AreEntries rows master m order (turns m writers (length rows)) own) (let e : w ≡ w + 0 = omega arith in e)
-          (subst (λ (o : List ℕ). AreEntries rows master w order (turns w writers (length rows)) o) (same_Some ps own at) h.0)
+      (subst (λ (o : List ℕ). AreEntries rows master w order (turns w writers (length rows)) o) (same_Some ps own at) h.0)
   entries_at w (suc k) (ps ∷ places) own h at =
       subst (λ (m : ℕ). AreEntries rows master m order (turns m writers (length rows)) own) (let e : suc w + k ≡ w + suc k = omega arith in e) (entries_at (suc w) k places own h.2 at)
 
@@ -85,7 +85,7 @@ module _ (rows : List Row) (master : Seed) (writers : ℕ) (order : List (Row ×
     one_more printed new blanks ts is before more =
         more ∙ ap (λ (l : List ℕ). filled printed l (items (get_or xs k d))) is ∙ ap (λ (l : List ℕ). filled l (turns k writers (length rows)) (items (get_or xs k d))) before
         ∙ ap (λ (m : ℕ). filled (filled_all writers (length rows) blanks 0 (map items (take k xs))) (turns m writers (length rows)) (items (get_or xs k d)))
-            (let l = length-map (take k xs) items in let t = length-take k xs in let e : k ≡ 0 + length (map items (take k xs)) = omega arith in e)
+        (let l = length-map (take k xs) items in let t = length-take k xs in let e : k ≡ 0 + length (map items (take k xs)) = omega arith in e)
         ∙ sym (filled_all_snoc writers (length rows) blanks 0 (map items (take k xs)) (items (get_or xs k d)))
         ∙ ap (filled_all writers (length rows) blanks 0) (sym (map-append items (take k xs) (get_or xs k d ∷ [])) ∙ ap (map items) (sym (take_more xs k d lt)))
 

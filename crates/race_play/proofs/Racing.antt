@@ -41,7 +41,7 @@ module _ (rows : List Row) (master : Seed) (writers : ℕ) (p : PassView) (place
       let z : w + 0 ≡ w = omega arith in
       let here : slice_get places w ≡ Some o = subst (λ (n : ℕ). slice_get places n ≡ Some o) z (there 0 o refl) in
       subst (λ (n : ℕ). IsBackLine (length rows) writers printed n line) (sym z) (subst (λ (x : Line). IsBackLine (length rows) writers printed w x) (same_Some l line at)
-          (backs_stand rows master writers p.sight.order places printed stands w o e.began l h.0.0 here e.fresh.floor e.wrote h.0.2.order e.legal.floor))
+      (backs_stand rows master writers p.sight.order places printed stands w o e.began l h.0.0 here e.fresh.floor e.wrote h.0.2.order e.legal.floor))
   back_at w (suc k) (o ∷ own) (l ∷ lines) line there h at =
       let z : suc w + k ≡ w + suc k = omega arith in
       subst (λ (n : ℕ). IsBackLine (length rows) writers printed n line) z

@@ -66,7 +66,12 @@ pub fn run_writers<R: Threads + Wait + Sync, G: Gate + Sync>(
     ensures numbers { (i : ℕ) (d : WriterJob) → i < length jobs.old → (slice_index_or jobs.new i d).number ≡ (slice_index_or jobs.old i d).number }
     ensures long { length jobs.new ≡ length jobs.old }
 {
-    thread::for_each_mut(rt, jobs, 16, &|_, job| {
-        work(rt, alloc, table, rows, writers, master, gate, job);
-    });
+    thread::for_each_mut(
+        rt,
+        jobs,
+        16,
+        &|_, job| {
+            work(rt, alloc, table, rows, writers, master, gate, job);
+        },
+    );
 }

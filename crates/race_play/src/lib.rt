@@ -18,6 +18,3 @@ pub use order::printed;
 pub use race::{Raced, race_rows, split_jobs};
 pub use round::ask_round;
 pub use write::{Written, write_rows};
-
-#[cfg(test)]
-mod tests;

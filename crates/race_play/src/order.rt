@@ -25,7 +25,12 @@ fn push_turn(list: &mut Vec<u64>, i: usize, writer: u8, writers: u8) -> Result<(
 }
 
 // The rows that a writer writes, of so many.
-pub(crate) fn turns_of(alloc: Global, rows: usize, writer: u8, writers: u8) -> Result<Vec<u64>, Memory>
+pub(crate) fn turns_of(
+    alloc: Global,
+    rows: usize,
+    writer: u8,
+    writers: u8,
+) -> Result<Vec<u64>, Memory>
     requires { writer < writers }
     ensures { IfOk result (λ list. list.items ≡ turns writer writers rows) }
 {
@@ -62,7 +67,11 @@ pub fn printed(
     let mut printed = vec![in alloc; rows.len() as u64; rows.len()]?;
     for w in 0..gathered.places.len() {
         let turns = turns_of(alloc, rows.len(), w as u8, writers)?;
-        fill(&mut printed, turns.as_slice(), gathered.places[w].as_slice());
+        fill(
+            &mut printed,
+            turns.as_slice(),
+            gathered.places[w].as_slice(),
+        );
     }
     Ok(printed)
 }

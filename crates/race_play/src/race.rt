@@ -69,7 +69,16 @@ fn run_all<R: Threads + Wait + Sync, G: Gate + Sync>(
     ensures numbered { AreNumbered 0 jobs.old.items → AreNumbered 0 jobs.new.items }
     ensures long { length jobs.new.items ≡ length jobs.old.items }
 {
-    run_writers(rt, alloc, table, rows, writers, master, gate, jobs.as_mut_slice());
+    run_writers(
+        rt,
+        alloc,
+        table,
+        rows,
+        writers,
+        master,
+        gate,
+        jobs.as_mut_slice(),
+    );
 }
 
 /// Which row stands at each place, and the writers' lines.

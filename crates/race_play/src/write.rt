@@ -49,7 +49,10 @@ fn write_row<R: Wait, G: Gate>(
     let Ok(mut drawn) = table.draw(pass, prepared) else {
         unreachable!()
     };
-    gate.pass(Point::AfterDraw { writer, row: number });
+    gate.pass(Point::AfterDraw {
+        writer,
+        row: number,
+    });
     table.place(rt, pass, &mut drawn, 0);
     table.place(rt, pass, &mut drawn, 1);
     table.place(rt, pass, &mut drawn, 2);
@@ -84,7 +87,9 @@ fn write_turn<R: Wait, G: Gate>(
     if i % writers as usize != writer as usize {
         return Ok(());
     }
-    let place = write_row(rt, alloc, table, pass, &rows[i], i as u64, writer, master, gate)?;
+    let place = write_row(
+        rt, alloc, table, pass, &rows[i], i as u64, writer, master, gate,
+    )?;
     places.push(place)?;
     Ok(())
 }
@@ -112,7 +117,19 @@ fn write_all<R: Wait, G: Gate>(
 {
     let mut places = Vec::new(alloc);
     for i in 0..rows.len() {
-        write_turn(rt, alloc, table, pass, rows, i, writer, writers, master, gate, &mut places)?;
+        write_turn(
+            rt,
+            alloc,
+            table,
+            pass,
+            rows,
+            i,
+            writer,
+            writers,
+            master,
+            gate,
+            &mut places,
+        )?;
     }
     Ok(places)
 }

@@ -21,6 +21,3 @@ mod task;
 mod words;
 
 pub use run::run_still;
-
-#[cfg(test)]
-mod tests;

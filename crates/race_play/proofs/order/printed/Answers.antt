@@ -14,7 +14,7 @@ pub fill-requires-clause-below : goal.fill-requires-clause-below
 fill-requires-clause-below c =
     let own = ap (λ v. v.items) c.index.ensures in
     subst (λ (l : List ℕ). All (λ (x : ℕ). x < length c.loop-w.printed.items) l) (sym (c.as_slice-in-loop-w.ensures.value ∙ own))
-        (all_at c.args.rows.now c.args.master.now c.args.writers c.args.pass.now.sight.order (λ v. v.items) c.args.gathered.now.places.items c.requires c.loop-w.w c.index.result.now (omega (arith, c.loop-w-test.true, c.len-w-end.ensures, c.args.gathered.now.places.ok.0)) c.loop-w.printed.items c.loop-w.invariant.long)
+    (all_at c.args.rows.now c.args.master.now c.args.writers c.args.pass.now.sight.order (λ v. v.items) c.args.gathered.now.places.items c.requires c.loop-w.w c.index.result.now (omega (arith, c.loop-w-test.true, c.len-w-end.ensures, c.args.gathered.now.places.ok.0)) c.loop-w.printed.items c.loop-w.invariant.long)
 
 pub loop-w-preserved : goal.loop-w-preserved
 loop-w-preserved c =

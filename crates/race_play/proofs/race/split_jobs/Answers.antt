@@ -27,8 +27,17 @@ loop-number-preserved c =
       });
       numbered = numbered_push _ _ _ c.in_ok-push.ensures.items before.numbered (sym before.long);
       long = long_push _ _ _ _ c.in_ok-push.ensures.items before.long;
-      room = omega (arith, rooms_more c.args.writers c.loop-number.number c.args.rows, ap (λ (p : PassView). p.sight.room) kept, before.room, c.len-room.ensures, c.in_ok-turns_of.field-0.ok.0, len,
-        rooms_within c.args.writers c.loop-number.number c.args.rows c.loop-number-test.true, c.requires.room);
+      room = omega (
+        arith,
+        rooms_more c.args.writers c.loop-number.number c.args.rows,
+        ap (λ (p : PassView). p.sight.room) kept,
+        before.room,
+        c.len-room.ensures,
+        c.in_ok-turns_of.field-0.ok.0,
+        len,
+        rooms_within c.args.writers c.loop-number.number c.args.rows c.loop-number-test.true,
+        c.requires.room,
+      );
     }
 
 pub returns-clause-room : goal.returns-clause-room

@@ -1,4 +1,3 @@
-use super::run_still;
 use report_lines::MemorySink;
 use ring128::Memory;
 use row_source::{MemorySource, SureSource};
@@ -6,6 +5,7 @@ use std::alloc::Global;
 use std::process::Abort;
 use std::test::Fail;
 use std::thread::Threads;
+use waldo_run::run_still;
 use wire_line::{RecordWire, Shift, ShiftWire, Shifts, StraightWire, Wire};
 
 const INPUT: &str = "host,value\n3,10\n1,20\n3,5\n";

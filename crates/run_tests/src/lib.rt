@@ -1,0 +1,5 @@
+//! Tests of whole runs, from words and bytes to text and status, over public items alone.
+#![tactic(auto)]
+
+#[cfg(test)]
+mod runs;
