@@ -74,7 +74,7 @@ build() {
   { mkdir -p -- "$built" && : >"$built/new.$$" && rm -f -- "$built/new.$$"; } 2>/dev/null ||
     refuse_build "the program has to be built, and the folder built/ can't be written"
   crates=($(crates_in_order))
-  say "there is no program of these sources yet: proving and building its ${#crates[@]} crates. From nothing this can take" \
+  say "there is no program of these sources yet: proving and building its ${#crates[@]} crates. From nothing this is estimated at" \
     "half an hour; what was proved on this machine before takes seconds"
   before=$(checksums)
   prove

@@ -210,7 +210,7 @@ check_freshness() {
   call ask host:2
   is "after a build the new program runs" "answer:0" "${out%$'\n'}:$status"
   has "the build says how many crates" "proving and building its 2 crates" "$err"
-  has "and how long it takes" "can take half an hour" "$err"
+  has "and how long it takes" "is estimated at half an hour" "$err"
   has "the new program is in its place" "# built" "$(tail -n 1 "$tree/built/waldo_cli")"
   rm -f "$room/proved"
   call ask host:2
