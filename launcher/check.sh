@@ -62,7 +62,13 @@ PROVER
 place() {
   mkdir -p "$tree/built"
   cp "$room/program" "$tree/built/waldo_cli"
-  (home=$tree && . "$tree/launcher/fresh.sh" && checksums built/waldo_cli >"$tree/built/sources")
+  (
+    home=$tree built=$tree/built
+    . "$tree/launcher/fresh.sh"
+    . "$tree/launcher/build.sh"
+    find_sources
+    keep_checksum "$(sources_now built/waldo_cli)"
+  )
   rm -f "$room/ran" "$room/proved"
 }
 

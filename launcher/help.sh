@@ -38,7 +38,10 @@ help_on() {
 # What a report of a fault should name: the sources by a number of their own, the toolchain, and whether the program is built.
 print_version() {
   local sum program kit
-  sum=$(checksums | cksum)
+  . "$home/launcher/fresh.sh"
+  . "$home/launcher/build.sh"
+  find_sources
+  sum=$(sources_now | cksum)
   kit=$(sed -n 's/^Proved with `\([^`]*\)`.*/\1/p' "$home/README.md" 2>/dev/null)
   if is_fresh; then
     program="proved and built of these sources"
