@@ -9,5 +9,5 @@ say() { printf 'waldo: %s\n' "$*" >&2; }
 . "$home/launcher/build.sh"
 [ -x "$home/crates/waldo_cli/out/waldo_cli" ] || refuse_build "the gate left no program in crates/waldo_cli/out"
 mkdir -p -- "$built" || refuse_build "built/ can't be written"
-find_sources
+find_sources $(crates_in_order)
 replace_program "$(sources_now)"

@@ -27,11 +27,13 @@ exists() { if [ -e "$1" ]; then echo yes; else echo no; fi; }
 
 # The fake program says TEXT and ends with STATUS; it writes down that it ran, and sleeps if it is told to.
 make_tree() {
-  mkdir -p "$tree/crates/waldo_cli/src" "$tree/crates/low/src" "$tree/crates/low/specs/deep" "$tree/built" "$room/bin"
+  mkdir -p "$tree"/crates/{waldo_cli/src,low/src,low/specs/deep,spare/src} "$tree/built" "$room/bin"
   cp -r waldo launcher docs README.md install.sh completions "$tree"
   echo 'Handles allowed: none.' >"$tree/HANDLES"
-  printf 'low:\nwaldo_cli: low\n' >"$tree/crates.txt"
-  echo 'fn main() {}' | tee "$tree/crates/waldo_cli/src/main.rt" "$tree/crates/low/src/lib.rt" >"$tree/crates/low/specs/deep/words.rt"
+  printf 'low:\nspare: low\nwaldo_cli: low\n' >"$tree/crates.txt"
+  echo 'fn main() {}' | tee "$tree"/crates/{waldo_cli/src/main.rt,low/src/lib.rt,spare/src/lib.rt} >"$tree/crates/low/specs/deep/words.rt"
+  # Names that languages put in orders of their own, and odd ones.
+  echo '// more' | tee "$tree"/crates/low/src/{Ab,a_b,aB,ab,Äb,-n,'a b','a\b',"a'b"}.rt >/dev/null
   cat >"$room/program" <<'PROGRAM'
 #!/bin/sh
 echo $$ >>"$ROOM/ran"
@@ -60,13 +62,14 @@ PROVER
 
 # Puts the fake program into the tree as one that was built of its sources.
 place() {
+  [ -f "$tree/built/sources" ] || rm -rf -- "$tree/built/sources"
   mkdir -p "$tree/built"
   cp "$room/program" "$tree/built/waldo_cli"
   (
     home=$tree built=$tree/built
     . "$tree/launcher/fresh.sh"
     . "$tree/launcher/build.sh"
-    find_sources
+    find_sources $(crates_in_order)
     keep_checksum "$(sources_now built/waldo_cli)"
   )
   rm -f "$room/ran" "$room/proved"
@@ -228,6 +231,87 @@ check_freshness() {
   place
 }
 
+# Makes a change in the sources, then looks whether a call builds, and whether the fresh tree runs again.
+sees() { # what, wanted, command ..
+  local what=$1 wanted=$2
+  shift 2
+  rm -f "$room/proved" "$room/ran"
+  (cd -- "$tree/crates" && "$@") || { echo "FAILED: $what could not be made"; failed=1; }
+  BREAK=yes call ask host:2
+  is "$what: the call builds" "$wanted" "$(exists "$room/proved")"
+  is "$what: the old program runs only where it doesn't" "$([ "$wanted" = no ] && echo yes || echo no)" "$(exists "$room/ran")"
+  place
+}
+
+same_size_and_time() {
+  cp -p low/src/lib.rt "$room/before" && tr m n <"$room/before" >low/src/lib.rt && touch -r "$room/before" low/src/lib.rt &&
+    [ "$(stat -c '%s %y' low/src/lib.rt)" = "$(stat -c '%s %y' "$room/before")" ] && ! cmp -s low/src/lib.rt "$room/before"
+}
+swap() { mv low/src/lib.rt low/src/held && mv low/src/ab.rt low/src/lib.rt && mv low/src/held low/src/ab.rt; }
+in_new_folder() { mkdir -p "$1" && echo '// new' >"$1/words.rt"; }
+old_times() { find . -exec touch -d 2001-01-01 {} +; }
+
+check_sources() {
+  local folder
+  sees "no change" no :
+  sees "a source of the same size and time" yes same_size_and_time
+  sees "two sources whose contents are swapped" yes swap
+  sees "a new file in src" yes touch low/src/new.rt
+  sees "a new file in src, its folder's time set back" yes eval "touch low/src/newer.rt; old_times"
+  sees "a new file without an ending" yes touch waldo_cli/src/new
+  sees "the first file in specs" yes eval "mkdir waldo_cli/specs; touch waldo_cli/specs/Lib.antt"
+  sees "a new file in a deeper folder" yes touch low/specs/deep/new.rt
+  sees "a new folder with a file" yes in_new_folder low/src/folder
+  sees "a new folder in a deeper one" yes in_new_folder low/specs/deep/deepest
+  sees "a file that is changed there" yes eval "echo >>low/specs/deep/deepest/words.rt"
+  sees "a file under an odd name" yes eval "echo >>'low/src/a b.rt'"
+  sees "a file under a name that is no option" yes eval "echo >>low/src/-n.rt"
+  sees "a file whose name has a backslash" yes eval "echo >>'low/src/a\\b.rt'"
+  sees "a file with another name" yes mv low/src/newer.rt low/src/newest.rt
+  sees "a removed file" yes rm low/src/newest.rt
+  sees "an empty file that is removed" yes rm low/src/new.rt
+  sees "a removed folder" yes rm -r low/specs/deep/deepest
+  sees "times that are set back" no old_times
+  sees "a proof" no in_new_folder low/proofs
+  sees "a crate that the program doesn't use" no eval "echo >>spare/src/lib.rt; touch spare/src/new.rt"
+  sees "a crate that it uses from now on" yes eval "printf 'low:\nspare: low\nwaldo_cli: low spare\n' >../crates.txt"
+  sees "that crate, changed" yes eval "echo >>spare/src/lib.rt"
+  sees "a crate without a use" yes eval "printf 'low:\nspare: low\nwaldo_cli: low\n' >../crates.txt"
+  sees "HANDLES" yes eval "echo >>../HANDLES"
+  for folder in /dev/null "$tree/HANDLES"; do sees "a list of sources that is ${folder##*/}" yes cp "$folder" ../built/sources; done
+  sees "a list of sources that ends early" yes eval "read -r line <../built/sources; echo \"\$line\" >../built/sources"
+  sees "a list of sources with a quote" yes eval "echo \"x='\" >../built/sources"
+  sees "a list of sources with patterns" yes eval "printf '%s\n' '1 2' '*' '* ../*' >../built/sources"
+  sees "a list of sources without a checksum" yes eval "sed -i 1s/.*// ../built/sources"
+  sees "no list of sources" yes rm ../built/sources
+  sees "a folder in the list's place" yes eval "rm -f ../built/sources; mkdir ../built/sources"
+}
+
+# Each shell and language that is there finds the same program fresh.
+check_shells() {
+  local shell language
+  for shell in bash "bash --posix" dash "busybox sh" ksh mksh yash; do
+    command -v ${shell%% *} >/dev/null || continue
+    rm -f "$room/proved"
+    is "by $shell" "answer no" "$($shell "$tree/waldo" ask host:2 2>/dev/null </dev/null) $(exists "$room/proved")"
+  done
+  for language in C POSIX $(locale -a 2>/dev/null | grep -iE '^(C|en_US|de_DE)\.utf-?8$'); do
+    rm -f "$room/proved"
+    is "in $language" "answer no" "$(LC_ALL=$language "$tree/waldo" ask host:2 2>/dev/null </dev/null) $(exists "$room/proved")"
+  done
+  is "with variables of these names" answer "$(BASH_VERSION=5.2 IFS=/ LC_ALL= crates=x folders=x kept=x part=help home=/ \
+    "$tree/waldo" ask host:2 </dev/null)"
+  mkdir -p "$room/few" && ln -sf "$(command -v cksum)" "$(command -v readlink)" "$room/few"
+  out=$(PATH=$room/few /bin/sh "$tree/waldo" ask host:2 2>&1 </dev/null; echo "$?")
+  [ -n "$(/bin/sh -c 'echo "${BASH_VERSION-}"')" ] ||
+    is "without bash: one line and status 1" $'waldo: the launcher wants bash, which is not on the PATH\n1' "$out"
+  rm -f "$room/few/cksum"
+  ln -sf "$(command -v bash)" "$(command -v awk)" "$room/few"
+  rm -f "$room/ran"
+  PATH=$room/few /bin/sh "$tree/waldo" ask host:2 >/dev/null 2>&1 </dev/null
+  is "without cksum nothing runs" "1 no" "$? $(exists "$room/ran")"
+}
+
 check_two_builds() {
   rm -rf -- "$tree/built"
   "$tree/waldo" ask host:2 >"$room/one" 2>/dev/null </dev/null &
@@ -364,7 +448,7 @@ check_schema() {
   is "a file that isn't there" 3 "$status"
 }
 
-all=(writes streams signals interrupt terminal freshness two_builds read_only memory no_proc places no_build lines install schema)
+all=(writes streams signals interrupt terminal freshness sources shells two_builds read_only memory no_proc places no_build lines install schema)
 make_tree
 for check in "${@:-${all[@]}}"; do
   "check_$check"

@@ -2,18 +2,21 @@
 # files in src and specs of each crate that it uses. It runs only where a new checksum is the same: so it never runs for other sources,
 # and a copy of a built tree needs no build. Proofs are no part, since what was proved of the same code and statements stays proved.
 #
-# built/sources has the checksum, then the crates that the program uses, then the folders that stand deeper in these. Names count besides
-# contents, so a file or folder that is new there is seen as well. So is a change of what is used, since crates.txt has that.
+# built/sources has the checksum, then those crates in which no folder stands deeper than src and specs, then all folders of the others.
+# Names count besides contents, so a file or a folder that is new there is seen as well. So is a change of what is used: crates.txt has it.
 
-# Lists the sources that `crates` and `folders` tell of: their names from the top in one line, then a line for each with its checksum.
-# The program's may stand behind them. A pattern that fits nothing counts as it is. Only a new shell may call this.
+# Lists the sources that `crates` and `folders` tell of: names from the top, then a line for each file with its checksum. The program's
+# may stand behind them. A pattern that fits nothing counts as it is. Folders are kept from cksum, whose versions differ there: so
+# where there are some a file needs an ending, as all sources have. Only a new shell may call this.
 list_sources() { # [the program]
   program=${1-}
   cd -- "$home" || return
-  patterns='crates.txt HANDLES'
-  for crate in $crates; do patterns="$patterns crates/$crate/src/* crates/$crate/specs/*"; done
-  for folder in $folders; do patterns="$patterns $folder/*"; done
-  set -- $patterns
+  files='crates.txt HANDLES' names=
+  for crate in $crates; do files="$files crates/$crate/src/* crates/$crate/specs/*"; done
+  for folder in $folders; do files="$files $folder/*.*" names="$names $folder/*"; done
+  set -- $names
+  printf '%s\n' "$*"
+  set -- $files
   printf '%s\n' "$*"
   exec cksum "$@" $program
 } </dev/null 2>/dev/null

@@ -40,7 +40,7 @@ print_version() {
   local sum program kit
   . "$home/launcher/fresh.sh"
   . "$home/launcher/build.sh"
-  find_sources
+  find_sources $(crates_in_order)
   sum=$(sources_now | cksum)
   kit=$(sed -n 's/^Proved with `\([^`]*\)`.*/\1/p' "$home/README.md" 2>/dev/null)
   if is_fresh; then

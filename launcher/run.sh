@@ -39,14 +39,13 @@ await() {
 # Under a limit on memory nothing is set, so that no answer hangs on it.
 memory_setting=glibc.malloc.hugetlb=1:glibc.malloc.mmap_threshold=1073741824:glibc.malloc.trim_threshold=1073741824:glibc.malloc.arena_max=1
 set_memory() {
-  local overcommit= kind soft
+  local overcommit= limits=
   [ -z "${GLIBC_TUNABLES+set}" ] || return
-  { read -r overcommit </proc/sys/vm/overcommit_memory; } 2>/dev/null
+  read -r overcommit </proc/sys/vm/overcommit_memory
   [[ $overcommit == [01] ]] || return
-  # Lines such as `Max data size  unlimited  unlimited  bytes`, the soft limit first.
-  while read -r _ kind _ soft _; do
-    [[ $kind == @(data|address) && $soft != unlimited ]] && return
-  done </proc/self/limits
+  # Lines such as `Max data size  unlimited  unlimited  bytes`, the soft limit first. Read at once, since a line at a time takes longer.
+  IFS= read -r -d '' limits </proc/self/limits
+  [[ $limits == *'Max data size '+( )'unlimited '*'Max address space '+( )'unlimited '* ]] || return
   export GLIBC_TUNABLES=$memory_setting LD_BIND_NOW=1
 } 2>/dev/null
 
