@@ -305,11 +305,14 @@ check_shells() {
   out=$(PATH=$room/few /bin/sh "$tree/waldo" ask host:2 2>&1 </dev/null; echo "$?")
   [ -n "$(/bin/sh -c 'echo "${BASH_VERSION-}"')" ] ||
     is "without bash: one line and status 1" $'waldo: the launcher wants bash, which is not on the PATH\n1' "$out"
-  rm -f "$room/few/cksum"
+  rm -f "$room/few/cksum" "$room/ran"
   ln -sf "$(command -v bash)" "$(command -v awk)" "$room/few"
-  rm -f "$room/ran"
   PATH=$room/few /bin/sh "$tree/waldo" ask host:2 >/dev/null 2>&1 </dev/null
   is "without cksum nothing runs" "1 no" "$? $(exists "$room/ran")"
+  echo >"$tree/built/sources"
+  PATH=$room/few /bin/sh "$tree/waldo" ask host:2 >/dev/null 2>&1 </dev/null
+  is "nor with an empty list of sources" "1 no" "$? $(exists "$room/ran")"
+  place
 }
 
 check_two_builds() {
