@@ -454,7 +454,8 @@ check_schema() {
   is "a file that isn't there" 3 "$status"
 }
 
-all=(writes streams signals interrupt terminal freshness sources shells two_builds read_only memory no_proc places no_build lines install schema)
+all=(writes streams signals interrupt terminal freshness sources shells two_builds
+  read_only memory no_proc places no_build lines install schema)
 make_tree
 for check in "${@:-${all[@]}}"; do
   "check_$check"
