@@ -53,9 +53,13 @@ fn tell<R: Abort + Threads + Wait + Sync>(
     (looks, rows, asked, wire.messages().len())
 }
 
+// Where a draw was placed before its last placing, the place of the other pass's row, and what the other pass was told before and after
+// that placing.
+type Lag = ([bool; 3], Option<u64>, Told, Told);
+
 // Places the draw at servers 0 and 1, then appends a row through the other pass, which is told; then places the draw at server 2, and
 // tells the other pass again.
-fn lag<R: Abort + Threads + Wait + Sync>(
+fn place_late<R: Abort + Threads + Wait + Sync>(
     rt: &R,
     alloc: Global,
     table: &Table,
@@ -63,7 +67,7 @@ fn lag<R: Abort + Threads + Wait + Sync>(
     drawn: &mut Drawn,
     other: &mut Pass,
     prepared: Prepared,
-) -> (Option<u64>, Told, Told)
+) -> Lag
     requires pass { IsOf table.now pass.old }
     requires table { drawn.old.table ≡ table.now }
     requires entry { slice_get pass.old.sight.order drawn.old.place ≡ Some drawn.old.entry }
@@ -77,17 +81,20 @@ fn lag<R: Abort + Threads + Wait + Sync>(
     table.place(rt, pass, drawn, 1);
     let place = table.append(rt, other, prepared).ok();
     let before = tell(rt, alloc, table, other);
+    let placed = [drawn.placed(0), drawn.placed(1), drawn.placed(2)];
     table.place(rt, pass, drawn, 2);
-    (place, before, tell(rt, alloc, table, other))
+    (placed, place, before, tell(rt, alloc, table, other))
 }
 
-// What the other pass is told before and after, between the floors of the pass that lags.
+// The place of the draw, its pass's floor before and after, and the lag.
+type Lagged = (u64, [u64; 2], Lag);
+
 fn draw_and_lag<R: Abort + Threads + Wait + Sync>(
     rt: &R,
     alloc: Global,
     table: &Table,
     pass: &mut Pass,
-) -> Result<Option<(u64, (Option<u64>, Told, Told), u64)>, Memory>
+) -> Result<Option<Lagged>, Memory>
     requires pass { IsOf table.now pass.old }
     requires room { 1 ≤ pass.old.sight.room }
 {
@@ -98,16 +105,15 @@ fn draw_and_lag<R: Abort + Threads + Wait + Sync>(
         return Ok(None);
     };
     let floor = pass.floor();
-    let said = lag(rt, alloc, table, pass, &mut drawn, &mut other, second);
-    finish(drawn);
-    Ok(Some((floor, said, pass.floor())))
+    let lag = place_late(rt, alloc, table, pass, &mut drawn, &mut other, second);
+    Ok(Some((finish(drawn), [floor, pass.floor()], lag)))
 }
 
 // The same on a table of its own.
 fn lag_anew<R: Abort + Threads + Wait + Sync>(
     rt: &R,
     alloc: Global,
-) -> Result<Option<(u64, (Option<u64>, Told, Told), u64)>, Memory> {
+) -> Result<Option<Lagged>, Memory> {
     let (table, mut pass) = open(alloc, 2)?;
     draw_and_lag(rt, alloc, &table, &mut pass)
 }
@@ -131,7 +137,8 @@ fn a_server_that_lags(rt: HostRuntime) -> Result<(), Memory> {
         0,
     );
     let after = ([2, 2, 2], Ok(2), Ok(Answered { rows: 2, total: 1 }), 15);
-    let wanted = Some((0, (Some(1), before, after), 1));
+    let placed = [true, true, false];
+    let wanted = Some((0, [0, 1], (placed, Some(1), before, after)));
     assert_eq!(rt; lag_anew(&rt, rt.alloc())?, wanted);
     Ok(())
 }

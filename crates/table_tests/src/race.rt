@@ -111,8 +111,12 @@ fn run_two<R: Abort + Threads + Wait + Sync>(
 {
     join_mut(
         rt,
-        &mut || run(rt, alloc, table, first),
-        &mut || run(rt, alloc, table, second),
+        &mut ||
+            requires { IsOf table.now first.now.pass }
+        { run(rt, alloc, table, first) },
+        &mut ||
+            requires { IsOf table.now second.now.pass }
+        { run(rt, alloc, table, second) },
     );
 }
 
@@ -137,8 +141,12 @@ fn run_four<R: Abort + Threads + Wait + Sync>(
 {
     join_mut(
         rt,
-        &mut || run_two(rt, alloc, table, first, second),
-        &mut || run_two(rt, alloc, table, third, fourth),
+        &mut ||
+            requires { IsOf table.now first.now.pass × IsOf table.now second.now.pass }
+        { run_two(rt, alloc, table, first, second) },
+        &mut ||
+            requires { IsOf table.now third.now.pass × IsOf table.now fourth.now.pass }
+        { run_two(rt, alloc, table, third, fourth) },
     );
 }
 

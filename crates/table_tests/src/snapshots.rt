@@ -75,8 +75,12 @@ fn sum_beside<R: Abort + Threads + Wait + Sync>(
 {
     join_mut(
         rt,
-        &mut || append_two(rt, alloc, table, pass),
-        &mut || sum(rt, alloc, table, agreed, &mut StraightWire::new()),
+        &mut ||
+            requires { IsOf table.now pass.now }
+        { append_two(rt, alloc, table, pass) },
+        &mut ||
+            requires { agreed.now.widths ≡ table.now.widths }
+        { sum(rt, alloc, table, agreed, &mut StraightWire::new()) },
     )
 }
 
@@ -87,7 +91,7 @@ type Sums = (
     Result<Answered, AskFault>,
 );
 
-fn sums<R: Abort + Threads + Wait + Sync>(
+fn sum_thrice<R: Abort + Threads + Wait + Sync>(
     rt: &R,
     alloc: Global,
     table: &Table,
@@ -106,9 +110,12 @@ fn sums<R: Abort + Threads + Wait + Sync>(
 }
 
 // The same on a table of its own.
-fn sums_anew<R: Abort + Threads + Wait + Sync>(rt: &R, alloc: Global) -> Result<Sums, Memory> {
+fn sum_thrice_anew<R: Abort + Threads + Wait + Sync>(
+    rt: &R,
+    alloc: Global,
+) -> Result<Sums, Memory> {
     let (table, mut pass) = open(alloc, 5)?;
-    sums(rt, alloc, &table, &mut pass)
+    sum_thrice(rt, alloc, &table, &mut pass)
 }
 
 #[test]
@@ -123,7 +130,7 @@ fn rows_stay_while_others_are_placed(rt: HostRuntime) -> Result<(), Memory> {
         }),
     );
     for _ in 0..10 {
-        assert_eq!(rt; sums_anew(&rt, rt.alloc())?, wanted);
+        assert_eq!(rt; sum_thrice_anew(&rt, rt.alloc())?, wanted);
     }
     Ok(())
 }
