@@ -13,12 +13,12 @@ use table_schema::Aggregate;
 use waldo_table::{AgreeFault, Answered, AskFault, Drawn, Pass, Prepared, Table, finish};
 use wire_line::RecordWire;
 
-// What a pass is told: by a look at each server, by an agreement, and by an ask that took so many messages.
+// What a pass is told: by an agreement, by an ask that took so many messages, and by a look at each server.
 type Told = (
-    [u64; 3],
     Result<u64, AgreeFault>,
     Result<Answered, AskFault>,
     usize,
+    [u64; 3],
 );
 
 // Agrees, and answers the number of rows.
@@ -32,7 +32,7 @@ fn agree<R: Wait>(rt: &R, alloc: Global, table: &Table, pass: &mut Pass) -> Resu
     }
 }
 
-// Looks, agrees and asks.
+// Agrees, asks and looks.
 fn tell<R: Abort + Threads + Wait + Sync>(
     rt: &R,
     alloc: Global,
@@ -42,23 +42,22 @@ fn tell<R: Abort + Threads + Wait + Sync>(
     requires { IsOf table.now pass.old }
     ensures { IsOf table.now pass.new }
 {
+    let rows = agree(rt, alloc, table, pass);
+    let mut wire = RecordWire::new(alloc);
+    let asked = ask(rt, alloc, table, pass, Aggregate::Count, &mut wire);
     let looks = [
         table.look(rt, pass, 0),
         table.look(rt, pass, 1),
         table.look(rt, pass, 2),
     ];
-    let rows = agree(rt, alloc, table, pass);
-    let mut wire = RecordWire::new(alloc);
-    let asked = ask(rt, alloc, table, pass, Aggregate::Count, &mut wire);
-    (looks, rows, asked, wire.messages().len())
+    (rows, asked, wire.messages().len(), looks)
 }
 
-// Where a draw was placed before its last placing, the place of the other pass's row, and what the other pass was told before and after
-// that placing.
-type Lag = ([bool; 3], Option<u64>, Told, Told);
+// Where a draw was placed before its last placing, the place of the other pass's row, and what was told.
+type Lag = ([bool; 3], Option<u64>, [Told; 3]);
 
-// Places the draw at servers 0 and 1, then appends a row through the other pass, which is told; then places the draw at server 2, and
-// tells the other pass again.
+// Places the draw at servers 0 and 1, and tells a pass that was told nothing before. Then appends a row through the other pass, and
+// tells that. Then places the draw at server 2, and tells the other pass again.
 fn place_late<R: Abort + Threads + Wait + Sync>(
     rt: &R,
     alloc: Global,
@@ -79,11 +78,13 @@ fn place_late<R: Abort + Threads + Wait + Sync>(
 {
     table.place(rt, pass, drawn, 0);
     table.place(rt, pass, drawn, 1);
+    let early = tell(rt, alloc, table, &mut table.split_pass(other, 0));
     let place = table.append(rt, other, prepared).ok();
     let before = tell(rt, alloc, table, other);
     let placed = [drawn.placed(0), drawn.placed(1), drawn.placed(2)];
     table.place(rt, pass, drawn, 2);
-    (placed, place, before, tell(rt, alloc, table, other))
+    let after = tell(rt, alloc, table, other);
+    (placed, place, [early, before, after])
 }
 
 // The place of the draw, its pass's floor before and after, and the lag.
@@ -118,27 +119,27 @@ fn lag_anew<R: Abort + Threads + Wait + Sync>(
     draw_and_lag(rt, alloc, &table, &mut pass)
 }
 
-// The other pass's own row, at place 1, is at all servers, so its floor is 2. Server 2 lacks place 0: there the prefix is 0, which is
-// below the floor, and no message is carried. Once the piece is there, both rows are agreed on, and one of them has bucket 3.
+// A pass with floor 0 agrees on the least of the prefixes 1, 1 and 0. The other pass's own row, at place 1, is at all servers, so its
+// floor is 2: server 2 lacks place 0, its prefix 0 is below the floor, and no message is carried. Once the piece is there, both rows
+// are agreed on, and one of them has bucket 3.
 #[test]
 fn a_server_that_lags(rt: HostRuntime) -> Result<(), Memory> {
-    let before = (
-        [2, 2, 0],
-        Err(AgreeFault::Again {
-            server: 2,
-            had: 0,
-            floor: 2,
-        }),
-        Err(AskFault::Again {
-            server: 2,
-            had: 0,
-            floor: 2,
-        }),
-        0,
-    );
-    let after = ([2, 2, 2], Ok(2), Ok(Answered { rows: 2, total: 1 }), 15);
-    let placed = [true, true, false];
-    let wanted = Some((0, [0, 1], (placed, Some(1), before, after)));
-    assert_eq!(rt; lag_anew(&rt, rt.alloc())?, wanted);
+    let again = AgreeFault::Again {
+        server: 2,
+        had: 0,
+        floor: 2,
+    };
+    let ask_again = AskFault::Again {
+        server: 2,
+        had: 0,
+        floor: 2,
+    };
+    let told = [
+        (Ok(0), Ok(Answered { rows: 0, total: 0 }), 15, [1, 1, 0]),
+        (Err(again), Err(ask_again), 0, [2, 2, 0]),
+        (Ok(2), Ok(Answered { rows: 2, total: 1 }), 15, [2, 2, 2]),
+    ];
+    let lag = ([true, true, false], Some(1), told);
+    assert_eq!(rt; lag_anew(&rt, rt.alloc())?, Some((0, [0, 1], lag)));
     Ok(())
 }

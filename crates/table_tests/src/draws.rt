@@ -1,5 +1,5 @@
 // A pass without room, and passes that meet and give room back.
-ghost use Rattle.std.specs.Prelude.{◌≡◌, ◌≤◌};
+ghost use Rattle.std.specs.Prelude.{◌≡◌};
 ghost use Rattle.waldo_table.specs.Tables.{IsOf};
 
 use crate::calls::{append, open, ready};

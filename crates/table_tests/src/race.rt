@@ -1,5 +1,5 @@
 // Writers and askers of one table, each in a thread of its own.
-ghost use Rattle.std.specs.Prelude.{◌≡◌, ◌+◌, ◌-◌, ◌≤◌, IfOk};
+ghost use Rattle.std.specs.Prelude.{◌≡◌, ◌-◌, ◌≤◌};
 ghost use Rattle.waldo_table.specs.Tables.{IsOf};
 
 use crate::calls::{append, ask, open};
