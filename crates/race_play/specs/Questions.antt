@@ -15,7 +15,6 @@ use Rattle.wire_line.specs.declared.message.Message.{Message}
 use Rattle.agreed_rows.specs.Agreed.{Entries}
 use Rattle.agreed_rows.specs.Answers.{Opens, judged, plain_total}
 use Rattle.race_play.specs.Lines.{answer_line}
-use Rattle.race_play.specs.Settings.{Setting}
 
 -- a query with its seed, and whose line it gets
 pub record Question : Type 0 where
@@ -29,22 +28,23 @@ question_of None make = []
 question_of (Some query) make = make query ∷ []
 
 -- a query in a round of an asker
-abbrev pub in_round : Setting → ℕ → ℕ → Query → Question
-in_round s asker round query = record { by = who.Round asker round; query = query; seed = derive_of s.master 2 asker round }
+abbrev pub in_round : Seed → ℕ → ℕ → Query → Question
+in_round master asker round query = record { by = who.Round asker round; query = query; seed = derive_of master 2 asker round }
 
 -- what an asker asks in its first rounds: the queries in turn, so query `round mod Q` of Q
-abbrev pub rounds_of : Setting → ℕ → ℕ → List Question
-rounds_of s asker zero = []
-rounds_of s asker (suc round) = rounds_of s asker round ++ question_of (slice_get s.queries (round % length s.queries)) (in_round s asker round)
+abbrev pub rounds_of : List Query → Seed → ℕ → ℕ → List Question
+rounds_of queries master asker zero = []
+rounds_of queries master asker (suc round) =
+    rounds_of queries master asker round ++ question_of (slice_get queries (round % length queries)) (in_round master asker round)
 
 -- a query once all writers and askers have ended
-abbrev pub at_end : Setting → ℕ → Query → Question
-at_end s q query = record { by = who.End q; query = query; seed = derive_of s.master 4 0 q }
+abbrev pub at_end : Seed → ℕ → Query → Question
+at_end master q query = record { by = who.End q; query = query; seed = derive_of master 4 0 q }
 
 -- the first queries, once all have ended
-abbrev pub ends_of : Setting → ℕ → List Question
-ends_of s zero = []
-ends_of s (suc q) = ends_of s q ++ question_of (slice_get s.queries q) (at_end s q)
+abbrev pub ends_of : List Query → Seed → ℕ → List Question
+ends_of queries master zero = []
+ends_of queries master (suc q) = ends_of queries master q ++ question_of (slice_get queries q) (at_end master q)
 
 -- what was told of a question: over how many rows, the messages that were carried, and the pair that they opened
 pub record Told : Type 0 where

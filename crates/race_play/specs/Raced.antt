@@ -26,4 +26,4 @@ pub record IsRaced (s : Setting) (p : PassView) (sent : List (List Message)) (r 
   pub long : length r.backs.items ≡ s.writers
   pub backs : (w : ℕ) (line : Line) → slice_get r.backs.items w ≡ Some line → IsBackLine (length s.rows) s.writers r.order.items w line
   pub askers : length sent ≡ s.askers
-  pub asks : AreAsked s p.sight.order 0 sent r.asks.items
+  pub asks : AreAsked s.widths s.queries s.master s.rounds p.sight.order 0 sent r.asks

@@ -38,8 +38,8 @@ pub record Reports (s : Setting) (sent : List (List Message)) (said : List Line)
   pub all_backs : length backs ≡ s.writers
   pub back : (w : ℕ) (line : Line) → slice_get backs w ≡ Some line → IsBackLine (length s.rows) s.writers order w line
   pub all_askers : length rounds ≡ s.askers
-  pub asked : AreAsked s entries 0 rounds asks
-  pub ended : Gave s.widths entries (length s.rows) (ends_of s (length s.queries)) last ends
+  pub asked : AreAsked s.widths s.queries s.master s.rounds entries 0 rounds asks
+  pub ended : Gave s.widths entries (length s.rows) (ends_of s.queries s.master (length s.queries)) last ends
   pub over : sent ≡ more_over_first last rounds
 
 -- a line of a pair that the check refused

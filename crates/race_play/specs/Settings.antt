@@ -25,22 +25,25 @@ setting_of r = record {
   rows = r.rows.now;
   queries = r.queries.now;
   master = r.master;
-  writers = r.writers;
-  askers = r.askers;
-  rounds = r.rounds;
+  writers = r.crew.writers;
+  askers = r.crew.askers;
+  rounds = r.crew.rounds;
 }
 
 -- how many rows the table takes: all that there are, and never none
 abbrev pub room_of : Setting → ℕ
 room_of s = max 1 (length s.rows)
 
+-- 1 to 16 queries that are legal over these widths
+pub record AreLegal (w : Widths) (queries : List Query) : Type 0 where
+  pub some : 0 < length queries
+  pub few : length queries ≤ 16
+  pub suits : All (λ (q : Query). Suits w.columns w.bits q) queries
+
 -- rows that the widths hold, for which there is room; some writers and askers; and some queries, which are legal
 pub record IsSetting (s : Setting) : Type 0 where
   pub held : All (Holds s.widths) s.rows
   pub fits : Fits (column_bits s.widths) (room_of s)
   pub writers : 0 < s.writers
-  pub askers : 0 < s.askers
-  pub few : s.askers ≤ 16
-  pub asked : 0 < length s.queries
-  pub short : length s.queries ≤ 16
-  pub suits : All (λ (q : Query). Suits s.widths.columns s.widths.bits q) s.queries
+  pub askers : (0 < s.askers) × (s.askers ≤ 16)
+  pub queries : AreLegal s.widths s.queries

@@ -2,16 +2,18 @@
 ghost use Rattle.std.specs.Prelude.{◌≡◌, ◌<◌, ◌≤◌, List, IfOk, length};
 ghost use Rattle.wire_line.specs.Messages.{Went};
 ghost use Rattle.wire_line.specs.declared.message.Message.{Message};
-ghost use Rattle.waldo_table.specs.Tables.{Grows, IsCovered, IsOf};
-ghost use Rattle.race_play.specs.Questions.{Gave, ends_of, rounds_of};
+ghost use Rattle.waldo_table.specs.Tables.{Grows, IsOf};
+ghost use Rattle.race_play.specs.Asking.{AsksOne, CanAsk};
+ghost use Rattle.race_play.specs.Questions.{Gave, ends_of};
 ghost use Rattle.race_play.specs.Raced.{HasFirst};
-ghost use Rattle.race_play.specs.Settings.{IsSetting, setting_of};
+ghost use Rattle.race_play.specs.Settings.{AreLegal};
 
 use crate::gate::Gate;
 use crate::round::{ask_line, ask_round};
 use crate::said::Said;
-use crate::setting::Race;
-use prg_chacha::derive;
+use crate::setting::Crew;
+use prg_chacha::{Seed, derive};
+use query_plan::Query;
 use report_lines::Who;
 use ring128::Memory;
 use std::alloc::Global;
@@ -25,26 +27,20 @@ pub(crate) fn ask_rounds<R: Threads + Wait + Sync, W: Wire, G: Gate>(
     rt: &R,
     alloc: Global,
     table: &Table,
-    race: &Race<'_>,
+    queries: &[Query],
+    master: &Seed,
+    crew: &Crew,
     asker: u8,
     gate: &G,
     pass: &mut Pass,
     wire: &mut W,
 ) -> Result<Said, Memory>
-    requires pass { IsOf table.now pass.old }
-    requires covered { IsCovered pass.old }
-    requires legal { IsSetting (setting_of race.now) }
-    requires some { 0 < race.now.workers }
-    requires widths { table.now.widths ≡ race.now.widths }
-    ensures pass { IsOf table.now pass.new }
-    ensures grows { Grows pass.old pass.new }
-    ensures own { pass.new.sight ≡ record pass.old.sight { order = pass.new.sight.order } }
-    ensures asked { (ms : List Message) × Went W.told W.alterations W.passes wire.old ms wire.new
-        × IfOk result (λ said. Gave race.now.widths pass.new.sight.order 0 (rounds_of (setting_of race.now) asker race.now.rounds) ms said) }
+    requires { CanAsk table.now queries.now crew.now pass.old }
+    ensures { AsksOne W.told W.alterations W.passes table.now queries.now master.now crew.now asker pass.old pass.new wire.old wire.new result }
 {
     let mut said = Said::new(alloc);
-    for round in 0..race.rounds {
-        let query = &race.queries[round as usize % race.queries.len()];
+    for round in 0..crew.rounds {
+        let query = &queries[round as usize % queries.len()];
         let line = ask_round(
             rt,
             alloc,
@@ -53,9 +49,9 @@ pub(crate) fn ask_rounds<R: Threads + Wait + Sync, W: Wire, G: Gate>(
             query,
             asker,
             round,
-            &race.master,
+            master,
             wire,
-            race.workers,
+            crew.workers,
             gate,
         )?;
         said.push(line)?;
@@ -63,40 +59,42 @@ pub(crate) fn ask_rounds<R: Threads + Wait + Sync, W: Wire, G: Gate>(
     Ok(said)
 }
 
-/// Each query once, over all rows.
+/// Each query once, over all rows, of which there are so many.
 pub(crate) fn ask_ends<R: Threads + Wait + Sync, W: Wire>(
     rt: &R,
     alloc: Global,
     table: &Table,
-    race: &Race<'_>,
+    queries: &[Query],
+    master: &Seed,
+    workers: u8,
+    rows: u64,
     pass: &mut Pass,
     wire: &mut W,
 ) -> Result<Said, Memory>
     requires pass { IsOf table.now pass.old }
-    requires all { HasFirst (length race.now.rows.now) pass.old }
-    requires floor { pass.old.floor ≤ length race.now.rows.now }
-    requires legal { IsSetting (setting_of race.now) }
-    requires some { 0 < race.now.workers }
-    requires widths { table.now.widths ≡ race.now.widths }
+    requires all { HasFirst rows pass.old }
+    requires floor { pass.old.floor ≤ rows }
+    requires legal { AreLegal table.now.widths queries.now }
+    requires some { 0 < workers }
     ensures pass { IsOf table.now pass.new }
     ensures grows { Grows pass.old pass.new }
     ensures own { pass.new.sight ≡ record pass.old.sight { order = pass.new.sight.order } }
     ensures asked { (ms : List Message) × Went W.told W.alterations W.passes wire.old ms wire.new
-        × IfOk result (λ said. Gave race.now.widths pass.new.sight.order (length race.now.rows.now) (ends_of (setting_of race.now) (length race.now.queries.now)) ms said) }
+        × IfOk result (Gave table.now.widths pass.new.sight.order rows (ends_of queries.now master.now (length queries.now)) ms) }
 {
     let mut said = Said::new(alloc);
-    for q in 0..race.queries.len() {
-        let seed = derive(&race.master, 4, 0, q as u64);
+    for q in 0..queries.len() {
+        let seed = derive(master, 4, 0, q as u64);
         let line = ask_line(
             rt,
             alloc,
             table,
             pass,
             Who::End(q as u64),
-            &race.queries[q],
+            &queries[q],
             &seed,
             wire,
-            race.workers,
+            workers,
         )?;
         said.push(line)?;
     }

@@ -7,7 +7,9 @@ ghost use Rattle.race_play.specs.Asking.{AsksAll, AsksOne, CanAsk};
 use crate::ask::ask_rounds;
 use crate::gate::Gate;
 use crate::said::Said;
-use crate::setting::Race;
+use crate::setting::Crew;
+use prg_chacha::Seed;
+use query_plan::Query;
 use ring128::Memory;
 use std::alloc::Global;
 use std::sync::Wait;
@@ -22,18 +24,20 @@ pub(crate) fn race_askers<R: Threads + Wait + Sync, W: Wire + Send, G: Gate + Sy
     rt: &R,
     alloc: Global,
     table: &Table,
-    race: &Race<'_>,
+    queries: &[Query],
+    master: &Seed,
+    crew: &Crew,
     asker: u8,
     gate: &G,
     pass: &mut Pass,
     wires: &mut [W],
 ) -> Result<Said, Memory>
-    requires can { CanAsk table.now race.now pass.old }
-    requires asker { asker ≤ race.now.askers }
-    requires wires { race.now.askers ≤ asker + length wires.old }
-    ensures { AsksAll W.told W.alterations W.passes table.now race.now asker pass.old pass.new wires.old wires.new result }
+    requires can { CanAsk table.now queries.now crew.now pass.old }
+    requires asker { asker ≤ crew.now.askers }
+    requires wires { crew.now.askers ≤ asker + length wires.old }
+    ensures { AsksAll W.told W.alterations W.passes table.now queries.now master.now crew.now asker pass.old pass.new wires.old wires.new result }
 {
-    if asker == race.askers {
+    if asker == crew.askers {
         return Ok(Said::new(alloc));
     }
     let Some((wire, rest)) = wires.split_first_mut() else {
@@ -41,7 +45,7 @@ pub(crate) fn race_askers<R: Threads + Wait + Sync, W: Wire + Send, G: Gate + Sy
     };
     let mut mine = table.split_pass(pass, 0);
     let (first, others) = ask_beside(
-        rt, alloc, table, race, asker, gate, &mut mine, wire, pass, rest,
+        rt, alloc, table, queries, master, crew, asker, gate, &mut mine, wire, pass, rest,
     );
     table.gather(pass, mine);
     joined(first, others)
@@ -53,7 +57,9 @@ fn ask_beside<R: Threads + Wait + Sync, W: Wire + Send, G: Gate + Sync>(
     rt: &R,
     alloc: Global,
     table: &Table,
-    race: &Race<'_>,
+    queries: &[Query],
+    master: &Seed,
+    crew: &Crew,
     asker: u8,
     gate: &G,
     mine: &mut Pass,
@@ -61,23 +67,31 @@ fn ask_beside<R: Threads + Wait + Sync, W: Wire + Send, G: Gate + Sync>(
     pass: &mut Pass,
     rest: &mut [W],
 ) -> (Result<Said, Memory>, Result<Said, Memory>)
-    requires mine { CanAsk table.now race.now mine.old }
-    requires can { CanAsk table.now race.now pass.old }
-    requires asker { asker < race.now.askers }
-    requires few { race.now.askers ≤ 16 }
-    requires wires { race.now.askers ≤ asker + 1 + length rest.old }
-    ensures one { AsksOne W.told W.alterations W.passes table.now race.now asker mine.old mine.new wire.old wire.new result.0 }
-    ensures others { AsksAll W.told W.alterations W.passes table.now race.now (asker + 1) pass.old pass.new rest.old rest.new result.1 }
+    requires mine { CanAsk table.now queries.now crew.now mine.old }
+    requires can { CanAsk table.now queries.now crew.now pass.old }
+    requires asker { asker < crew.now.askers }
+    requires few { crew.now.askers ≤ 16 }
+    requires wires { crew.now.askers ≤ asker + 1 + length rest.old }
+    ensures one { AsksOne W.told W.alterations W.passes table.now queries.now master.now crew.now asker mine.old mine.new wire.old wire.new result.0 }
+    ensures others { AsksAll W.told W.alterations W.passes table.now queries.now master.now crew.now (asker + 1) pass.old pass.new rest.old rest.new result.1 }
 {
     let mut first = || -> Result<Said, Memory>
-        requires { IsSync R.row × IsSync G.row × IsSend W.row × CanAsk table.now race.now mine.now }
-        ensures { AsksOne W.told W.alterations W.passes table.entry.now race.entry.now asker mine.entry.now mine.exit.now wire.entry.now wire.exit.now result }
-    { ask_rounds(rt, alloc, table, race, asker, gate, mine, wire) };
+        requires { IsSync R.row × IsSync G.row × IsSend W.row × CanAsk table.now queries.now crew.now mine.now }
+        ensures { AsksOne W.told W.alterations W.passes table.entry.now queries.entry.now master.entry.now crew.entry.now asker mine.entry.now mine.exit.now wire.entry.now wire.exit.now result }
+    {
+        ask_rounds(
+            rt, alloc, table, queries, master, crew, asker, gate, mine, wire,
+        )
+    };
     let next = asker + 1;
     let mut others = || -> Result<Said, Memory>
-        requires { IsSync R.row × IsSync G.row × IsSend W.row × CanAsk table.now race.now pass.now × (next ≤ race.now.askers) × (race.now.askers ≤ next + length rest.now) }
-        ensures { AsksAll W.told W.alterations W.passes table.entry.now race.entry.now next pass.entry.now pass.exit.now rest.entry.now rest.exit.now result }
-    { race_askers(rt, alloc, table, race, next, gate, pass, rest) };
+        requires { IsSync R.row × IsSync G.row × IsSend W.row × CanAsk table.now queries.now crew.now pass.now × (next ≤ crew.now.askers) × (crew.now.askers ≤ next + length rest.now) }
+        ensures { AsksAll W.told W.alterations W.passes table.entry.now queries.entry.now master.entry.now crew.entry.now next pass.entry.now pass.exit.now rest.entry.now rest.exit.now result }
+    {
+        race_askers(
+            rt, alloc, table, queries, master, crew, next, gate, pass, rest,
+        )
+    };
     join_mut(rt, &mut first, &mut others)
 }
 

@@ -4,8 +4,8 @@ ghost use Rattle.std.specs.List.{list_any};
 ghost use Rattle.report_lines.specs.declared.lines.Line.TheVariants as lines;
 ghost use Rattle.race_play.specs.Reports.{is_altered, place_lines};
 
-use crate::race::Raced;
 use crate::said::Said;
+use crate::together::Raced;
 use report_lines::{Line, Report};
 use ring128::Memory;
 use std::alloc::Global;

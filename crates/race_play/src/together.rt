@@ -1,26 +1,20 @@
 //! Writers and askers at once.
 ghost use denote.Param.Send.{IsSend, IsSync};
-ghost use Rattle.std.specs.Prelude.{◌≡◌, ℕ, ◌≤◌, ◌<◌, ◌+◌, [], false, All, IfOk, List, length};
-ghost use Rattle.std.specs.List.{list_any};
+ghost use Rattle.std.specs.Prelude.{◌≡◌, ℕ, ◌≤◌, ◌<◌, ◌+◌, [], All, IfOk, List, length};
 ghost use Rattle.table_schema.specs.Widths.{Holds};
 ghost use Rattle.waldo_table.specs.Tables.{IsOf};
-ghost use Rattle.wire_line.specs.Lists.{SomeRose};
 ghost use Rattle.wire_line.specs.declared.message.Message.{Message};
 ghost use Rattle.race_play.specs.Askers.{WentEach};
 ghost use Rattle.race_play.specs.Asking.{AsksAll, CanAsk};
 ghost use Rattle.race_play.specs.Jobs.{AllDone, AreNumbered, IsDone, IsFresh, IsReady};
 ghost use Rattle.race_play.specs.Raced.{IsRaced};
-ghost use Rattle.race_play.specs.Reports.{Reports, is_altered};
 ghost use Rattle.race_play.specs.Settings.{IsSetting, setting_of};
-ghost use Rattle.race_play.specs.Turns.{turns};
 
-use crate::ask::ask_ends;
 use crate::askers::race_askers;
 use crate::gate::Gate;
 use crate::gather::gather_all;
 use crate::jobs::{WriterJob, run_writers};
 use crate::order::{printed, turns_of};
-use crate::report::{Ran, report_of};
 use crate::said::Said;
 use crate::setting::Race;
 use prg_chacha::Seed;
@@ -106,21 +100,45 @@ fn run_both<R: Threads + Wait + Sync, W: Wire + Send, G: Gate + Sync>(
 ) -> Result<Said, Memory>
     requires held { All (Holds table.now.widths) race.now.rows.now }
     requires few { length race.now.rows.now ≤ 65536 }
-    requires ready { All (IsReady table.now (length race.now.rows.now) race.now.writers) jobs.old.items }
-    requires can { CanAsk table.now race.now pass.old }
-    requires wires { race.now.askers ≤ length wires.old }
-    ensures done { AllDone table.now race.now.rows.now race.now.master race.now.writers jobs.old.items jobs.new.items }
-    ensures asked { AsksAll W.told W.alterations W.passes table.now race.now 0 pass.old pass.new wires.old wires.new result }
+    requires ready { All (IsReady table.now (length race.now.rows.now) race.now.crew.writers) jobs.old.items }
+    requires can { CanAsk table.now race.now.queries.now race.now.crew pass.old }
+    requires wires { race.now.crew.askers ≤ length wires.old }
+    ensures done { AllDone table.now race.now.rows.now race.now.master race.now.crew.writers jobs.old.items jobs.new.items }
+    ensures asked { AsksAll W.told W.alterations W.passes table.now race.now.queries.now race.now.master race.now.crew 0 pass.old pass.new wires.old wires.new result }
 {
     let mut write = ||
         requires { IsSync R.row × IsSync G.row × All (Holds table.now.widths) race.now.rows.now × (length race.now.rows.now ≤ 65536)
-            × All (IsReady table.now (length race.now.rows.now) race.now.writers) jobs.now.items }
-        ensures { AllDone table.entry.now race.entry.now.rows.now race.entry.now.master race.entry.now.writers jobs.entry.now.items jobs.exit.now.items }
-    { run_all(rt, alloc, table, race.rows, race.writers, &race.master, gate, jobs) };
+            × All (IsReady table.now (length race.now.rows.now) race.now.crew.writers) jobs.now.items }
+        ensures { AllDone table.entry.now race.entry.now.rows.now race.entry.now.master race.entry.now.crew.writers jobs.entry.now.items jobs.exit.now.items }
+    {
+        run_all(
+            rt,
+            alloc,
+            table,
+            race.rows,
+            race.crew.writers,
+            &race.master,
+            gate,
+            jobs,
+        )
+    };
     let mut ask = || -> Result<Said, Memory>
-        requires { IsSync R.row × IsSync G.row × IsSend W.row × CanAsk table.now race.now pass.now × (race.now.askers ≤ length wires.now) }
-        ensures { AsksAll W.told W.alterations W.passes table.entry.now race.entry.now 0 pass.entry.now pass.exit.now wires.entry.now wires.exit.now result }
-    { race_askers(rt, alloc, table, race, 0, gate, pass, wires) };
+        requires { IsSync R.row × IsSync G.row × IsSend W.row × CanAsk table.now race.now.queries.now race.now.crew pass.now × (race.now.crew.askers ≤ length wires.now) }
+        ensures { AsksAll W.told W.alterations W.passes table.entry.now race.entry.now.queries.now race.entry.now.master race.entry.now.crew 0 pass.entry.now pass.exit.now wires.entry.now wires.exit.now result }
+    {
+        race_askers(
+            rt,
+            alloc,
+            table,
+            race.queries,
+            &race.master,
+            &race.crew,
+            0,
+            gate,
+            pass,
+            wires,
+        )
+    };
     let (_, said) = join_mut(rt, &mut write, &mut ask);
     said
 }
@@ -133,8 +151,8 @@ pub struct Raced {
     pub asks: Said,
 }
 
-// All writers and askers at once, with passes that are split off this one and gathered into it.
-fn race_all<R: Threads + Wait + Sync, W: Wire + Send, G: Gate + Sync>(
+/// All writers and askers at once, with passes that are split off this one and gathered into it.
+pub(crate) fn race_all<R: Threads + Wait + Sync, W: Wire + Send, G: Gate + Sync>(
     rt: &R,
     alloc: Global,
     table: &Table,
@@ -146,15 +164,15 @@ fn race_all<R: Threads + Wait + Sync, W: Wire + Send, G: Gate + Sync>(
     requires pass { IsOf table.now pass.old }
     requires fresh { IsFresh pass.old }
     requires legal { IsSetting (setting_of race.now) }
-    requires some { 0 < race.now.workers }
+    requires some { 0 < race.now.crew.workers }
     requires widths { table.now.widths ≡ race.now.widths }
     requires whole { pass.old.sight.room ≡ table.now.book.capacity }
     requires room { length race.now.rows.now ≤ table.now.book.capacity }
-    requires wires { race.now.askers ≤ length wires.old }
+    requires wires { race.now.crew.askers ≤ length wires.old }
     ensures pass { IsOf table.now pass.new }
     ensures raced { (sent : List (List Message)) × WentEach W.told W.alterations W.passes sent wires.old wires.new × IfOk result (IsRaced (setting_of race.now) pass.new sent) }
 {
-    let mut jobs = split_jobs(alloc, table, pass, race.rows.len(), race.writers)?;
+    let mut jobs = split_jobs(alloc, table, pass, race.rows.len(), race.crew.writers)?;
     let mut mine = table.split_pass(pass, 0);
     let asks = run_both(rt, alloc, table, race, gate, &mut jobs, &mut mine, wires);
     table.gather(pass, mine);
@@ -164,44 +182,22 @@ fn race_all<R: Threads + Wait + Sync, W: Wire + Send, G: Gate + Sync>(
         pass,
         jobs,
         race.rows,
-        race.writers,
+        race.crew.writers,
         &race.master,
     )?;
     pass.room();
     pass.floor();
-    let order = printed(alloc, race.rows, &race.master, race.writers, pass, &gathered)?;
+    let order = printed(
+        alloc,
+        race.rows,
+        &race.master,
+        race.crew.writers,
+        pass,
+        &gathered,
+    )?;
     Ok(Raced {
         order,
         backs: gathered.lines,
         asks: asks?,
     })
-}
-
-/// Writers append the rows and askers ask the queries at once, on one table, each in a thread of its own; and once all have ended, each
-/// query is asked over all rows. Asker a asks over wire a, and the last queries go over the first wire; other wires are as they were.
-/// No order of the threads in time is promised; `Reports` says what the report is. Waits for the threads. Out of memory, there is no
-/// report, and messages may have been carried.
-pub fn race<R: Threads + Wait + Sync, W: Wire + Send, G: Gate + Sync>(
-    rt: &R,
-    alloc: Global,
-    race: &Race<'_>,
-    gate: &G,
-    wires: &mut Vec<W>,
-) -> Result<Ran, Memory>
-    requires legal { IsSetting (setting_of race.now) }
-    requires some { 0 < race.now.workers }
-    requires wires { race.now.askers ≤ length wires.old.items }
-    ensures wires { length wires.new.items ≡ length wires.old.items }
-    ensures reports { IfOk result (λ r. (sent : List (List Message)) × WentEach W.told W.alterations W.passes sent wires.old.items wires.new.items
-        × Reports (setting_of race.now) sent r.report) }
-    ensures altered { IfOk result (λ r. r.altered ≡ list_any is_altered r.report) }
-    ensures accepted { ¬ SomeRose W.alterations wires.old.items wires.new.items → IfOk result (λ r. r.altered ≡ false) }
-{
-    let room = race.rows.len().max(1) as u32;
-    let Ok((table, mut pass)) = Table::new(alloc, race.widths, room) else {
-        return Err(Memory);
-    };
-    let raced = race_all(rt, alloc, &table, &mut pass, race, gate, wires.as_mut_slice())?;
-    let ends = ask_ends(rt, alloc, &table, race, &mut pass, &mut wires[0])?;
-    report_of(alloc, raced, ends)
 }
