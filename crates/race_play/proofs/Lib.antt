@@ -5,6 +5,8 @@ pub mod Gathering
 pub mod Ordering
 pub mod Orders
 pub mod Racing
+pub mod Reporting
 pub mod Splitting
 pub mod Sums
 pub mod Writing
+pub mod Yielding

@@ -40,12 +40,19 @@ fn push_lines(report: &mut Report, lines: Vec<Line>) -> Result<(), Memory>
     Ok(())
 }
 
+// Whether the line is that of a pair that the check refused.
+fn is_altered(line: &Line) -> bool
+    ensures { result ≡ is_altered line.now }
+{
+    matches!(line, Line::Altered { .. })
+}
+
 // Whether the check refused a pair.
 fn any_altered(lines: &[Line]) -> bool
     ensures { result ≡ list_any is_altered lines.now }
 {
     for line in lines {
-        if let Line::Altered { .. } = line {
+        if is_altered(line) {
             return true;
         }
     }
