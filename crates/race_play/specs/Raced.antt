@@ -8,7 +8,7 @@ use Rattle.race_play.specs.Askers.{AreAsked}
 use Rattle.race_play.specs.Laws.{Stands}
 use Rattle.race_play.specs.Printed.{IsBackLine}
 use Rattle.race_play.specs.Settings.{Setting}
-use Rattle.race_play.specs.declared.race.Raced.{Raced}
+use Rattle.race_play.specs.declared.together.Raced.{Raced}
 
 -- each server has the first n places, as the pass has seen
 pub record HasFirst (n : ℕ) (p : PassView) : Type 0 where
