@@ -5,11 +5,13 @@ use Rattle.std.proofs.lemmas.Nat.{mod_below}
 use Rattle.std.proofs.lemmas.Option.{slice_get-get_or}
 use Rattle.std.proofs.lemmas.List.{length-take, take-append-le}
 use mathlib.Core.List.{IsPrefix}
+use Rattle.prg_chacha.specs.Prg.{derive_of}
 use Rattle.prg_chacha.specs.declared.seed.Seed.{Seed}
 use Rattle.query_plan.specs.declared.query.Query.{Query}
 use Rattle.report_lines.specs.declared.lines.Line.{Line}
 use Rattle.report_lines.specs.declared.lines.Line.TheVariants as lines
 use Rattle.report_lines.specs.declared.lines.Who.{Who}
+use Rattle.report_lines.specs.declared.lines.Who.TheVariants as who
 use Rattle.server_rounds.specs.declared.opened.OpenedPair.{OpenedPair}
 use Rattle.table_schema.specs.declared.rows.Row.{Row}
 use Rattle.table_schema.specs.declared.widths.Widths.{Widths}
@@ -21,7 +23,7 @@ use Rattle.agreed_rows.specs.Answers.{Opens, plain_total}
 use Rattle.list_facts.proofs.Prefixes.{prefix_length}
 use Rattle.waldo_table.proofs.Legal.{prefix_rises}
 use Rattle.waldo_table.specs.Asks.{rows_of}
-use Rattle.waldo_table.specs.Tables.{Agrees, Grows, PassView}
+use Rattle.waldo_table.specs.Tables.{Agrees, Grows, IsCovered, PassView}
 use Rattle.race_play.specs.Questions.{AreAnswers, Gave, IsAnswer, Question, Told, at_end, ends_of, first, in_round, messages_of, question_of, rounds_of}
 use Rattle.race_play.specs.Raced.{HasFirst}
 use Rattle.race_play.specs.Rounds.{Asks}
@@ -86,6 +88,10 @@ pub at_least : (w : Widths) (n : ℕ) (p q : PassView) → HasFirst n p → Grow
 at_least w n p q has grows a =
     omega (arith, has.zero, has.one, has.two, prefix_rises _ _ grows.zero, prefix_rises _ _ grows.one, prefix_rises _ _ grows.two, a.rows, a.floor)
 
+-- a pass whose floor is no more than what the servers have
+pub covered_first : (n : ℕ) (p : PassView) → HasFirst n p → p.floor ≤ n → IsCovered p
+covered_first n p has le = record { zero = omega (arith, has.zero); one = omega (arith, has.one); two = omega (arith, has.two) }
+
 answer_of : (w : Widths) (p q : PassView) (who : Who) (query : Query) (seed : Seed) (ms : List Message) (pair : OpenedPair) (line : Line) → Asks w p q who query seed ms pair line
     → IsAnswer w q.sight.order (record { by = who; query = query; seed = seed }) (record { rows = q.floor; messages = ms; pair = pair }) line
 answer_of w p q who query seed ms pair line asks = record {
@@ -127,7 +133,8 @@ rounds_next queries master asker round next d some is =
     ap (λ (o : Option Query). rounds_of queries master asker round ++ question_of o (in_round master asker round)) (sym (slice_get-get_or queries (round % length queries) d (mod_below round (length queries) some)))
     ∙ ap (rounds_of queries master asker) (sym is)
 
-pub ends_next : (queries : List Query) (master : Seed) (q next : ℕ) (d : Query) → q < length queries → next ≡ suc q
-    → ends_of queries master q ++ at_end master q (get_or queries q d) ∷ [] ≡ ends_of queries master next
-ends_next queries master q next d lt is =
-    ap (λ (o : Option Query). ends_of queries master q ++ question_of o (at_end master q)) (sym (slice_get-get_or queries q d lt)) ∙ ap (ends_of queries master) (sym is)
+pub ends_next : (queries : List Query) (master : Seed) (q next : ℕ) (d : Query) (seed : Seed) → q < length queries → next ≡ suc q → seed ≡ derive_of master 4 0 q
+    → ends_of queries master q ++ record { by = who.End q; query = get_or queries q d; seed = seed } ∷ [] ≡ ends_of queries master next
+ends_next queries master q next d seed lt is derived =
+    ap (λ (s : Seed). ends_of queries master q ++ record { by = who.End q; query = get_or queries q d; seed = s } ∷ []) derived
+    ∙ ap (λ (o : Option Query). ends_of queries master q ++ question_of o (at_end master q)) (sym (slice_get-get_or queries q d lt)) ∙ ap (ends_of queries master) (sym is)
