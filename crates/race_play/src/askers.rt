@@ -70,7 +70,6 @@ fn ask_beside<R: Threads + Wait + Sync, W: Wire + Send, G: Gate + Sync>(
     requires mine { CanAsk table.now queries.now crew.now mine.old }
     requires can { CanAsk table.now queries.now crew.now pass.old }
     requires asker { asker < crew.now.askers }
-    requires few { crew.now.askers ≤ 16 }
     requires wires { crew.now.askers ≤ asker + 1 + length rest.old }
     ensures one { AsksOne W.told W.alterations W.passes table.now queries.now master.now crew.now asker mine.old mine.new wire.old wire.new result.0 }
     ensures others { AsksAll W.told W.alterations W.passes table.now queries.now master.now crew.now (asker + 1) pass.old pass.new rest.old rest.new result.1 }
