@@ -73,7 +73,9 @@ fn run_all<R: Threads + Wait + Sync, G: Gate + Sync>(
     requires held { All (Holds table.now.widths) rows.now }
     requires few { length rows.now ≤ 65536 }
     requires ready { All (IsReady table.now (length rows.now) writers) jobs.old.items }
-    ensures { AllDone table.now rows.now master.now writers jobs.old.items jobs.new.items }
+    ensures done { All (IsDone table.now rows.now master.now writers) jobs.new.items }
+    ensures numbered { AreNumbered 0 jobs.old.items → AreNumbered 0 jobs.new.items }
+    ensures long { length jobs.new.items ≡ length jobs.old.items }
 {
     run_writers(
         rt,
