@@ -6,6 +6,7 @@ pub mod Filling
 pub mod Gathering
 pub mod Ordering
 pub mod Orders
+pub mod Playing
 pub mod Racing
 pub mod Reporting
 pub mod Splitting

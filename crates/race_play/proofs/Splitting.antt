@@ -28,9 +28,9 @@ long_push js new j n is e = omega (arith, ap length is, length-append js (j ∷ 
 
 -- ---- a list whose elements were changed in place
 
-pub whole_slice : (xs new : List WriterJob) (len : ℕ) → length new ≡ length xs → len ≡ length xs → take len (new ++ drop (length new) xs) ≡ new
+pub whole_slice : {X : Type 0} (xs new : List X) (len : ℕ) → length new ≡ length xs → len ≡ length xs → take len (new ++ drop (length new) xs) ≡ new
 whole_slice xs new len long is =
-    ap (λ (n : ℕ). take len (new ++ drop n xs)) long ∙ ap (λ (l : List WriterJob). take len (new ++ l)) (drop_all (length xs) xs (omega arith)) ∙ ap (take len) (append-nil new) ∙ take_all len new (omega arith)
+    ap (λ (n : ℕ). take len (new ++ drop n xs)) long ∙ ap (λ l. take len (new ++ l)) (drop_all (length xs) xs (omega arith)) ∙ ap (take len) (append-nil new) ∙ take_all len new (omega arith)
 
 pub numbered_same : (w : ℕ) (old new : List WriterJob) → length new ≡ length old → ((i : ℕ) (d : WriterJob) → i < length old → (get_or new i d).number ≡ (get_or old i d).number) → AreNumbered w old → AreNumbered w new
 numbered_same w [] [] long same n = tt

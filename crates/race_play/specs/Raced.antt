@@ -1,5 +1,5 @@
 -- What writers and askers at once came to.
-use Rattle.std.specs.Prelude.{◌≡◌, ℕ, ◌≤◌, Some, List, length, slice_get}
+use Rattle.std.specs.Prelude.{◌≡◌, ℕ, ◌+◌, ◌≤◌, Some, List, length, slice_get}
 use Rattle.prefix_log.specs.Journal.{prefix}
 use Rattle.report_lines.specs.declared.lines.Line.{Line}
 use Rattle.wire_line.specs.declared.message.Message.{Message}
@@ -16,13 +16,14 @@ pub record HasFirst (n : ℕ) (p : PassView) : Type 0 where
   pub one : n ≤ prefix p.one.seen
   pub two : n ≤ prefix p.two.seen
 
--- an order of all rows, which is that of the pass, whose servers have them all; a line for each writer over it; and the lines of the askers,
+-- an order of all rows, which is that of the pass, whose servers have them all, with no room but for what no row needs; a line for each writer over it; and the lines of the askers,
 -- with their messages
 pub record IsRaced (s : Setting) (p : PassView) (sent : List (List Message)) (r : Raced) : Type 0 where
   pub places : List (List ℕ)
   pub stands : Stands s.rows s.master s.writers p.sight.order places r.order.items
   pub all : HasFirst (length s.rows) p
   pub floor : p.floor ≤ length s.rows
+  pub full : p.sight.book.capacity ≤ p.sight.room + length s.rows
   pub long : length r.backs.items ≡ s.writers
   pub backs : (w : ℕ) (line : Line) → slice_get r.backs.items w ≡ Some line → IsBackLine (length s.rows) s.writers r.order.items w line
   pub askers : length sent ≡ s.askers

@@ -63,5 +63,6 @@ pub fn race<R: Threads + Wait + Sync, W: Wire + Send, G: Gate + Sync>(
         &mut pass,
         &mut wires[0],
     )?;
+    pass.room();
     report_of(alloc, raced, ends)
 }

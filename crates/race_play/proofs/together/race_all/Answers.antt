@@ -41,6 +41,7 @@ returns-clause-raced g c =
         stands = c.in_ok-order.ensures;
         all = first_of _ _ _ c.gather_all.new.pass gathered e.all all c.in_ok-order.ensures.same;
         floor = let f = c.floor.ensures.legal.floor in let l = c.in_ok-order.ensures.same in omega arith;
+        full = let r = e.room in let k = ap (λ (n : Named). n.capacity) e.pass.book in let n = s.room ∙ c.requires.whole in omega arith;
         long = ended_long _ _ _ c.gather_all.new.pass 0 (places_in gathered) gathered.lines.items ended ∙ length-map gathered.places.items (λ v. v.items) ∙ e.long ∙ c.run_both-asks.ensures.done.long ∙ s.long;
         backs = all_backs _ _ _ c.gather_all.new.pass (places_in gathered) _ c.in_ok-order.ensures gathered.lines.items ended;
         askers = let n = asks.asked.3 in omega arith;
