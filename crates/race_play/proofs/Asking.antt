@@ -1,5 +1,5 @@
 -- The line of an ask.
-use Rattle.std.proofs.Common.{◌≡◌, ◌∙◌, refl, sym, ap, ℕ, List}
+use Rattle.std.proofs.Common.{◌≡◌, ◌∙◌, sym, ap, ℕ, List}
 use Rattle.std.specs.Prelude.{IfOk, Result, Ok, Err}
 use Rattle.prg_chacha.specs.declared.seed.Seed.{Seed}
 use Rattle.query_plan.specs.declared.query.Query.{Query}
@@ -9,10 +9,8 @@ use Rattle.report_lines.specs.declared.lines.Who.{Who}
 use Rattle.ring128.specs.declared.memory.Memory.{Memory}
 use Rattle.server_rounds.specs.declared.opened.OpenedPair.{OpenedPair}
 use Rattle.table_schema.specs.declared.widths.Widths.{Widths}
-use Rattle.weighted_check.specs.declared.Altered.{Altered}
 use Rattle.wire_line.specs.Messages.{IsHonest}
 use Rattle.wire_line.specs.declared.message.Message.{Message}
-use Rattle.agreed_rows.specs.Answers.{judged}
 use Rattle.agreed_rows.specs.declared.query.Answered.{Answered}
 use Rattle.waldo_table.specs.Asks.{Asked, IsPlainAsk}
 use Rattle.waldo_table.specs.Tables.{PassView}

@@ -1,5 +1,5 @@
 -- Askers at once.
-use Rattle.std.proofs.Common.{◌≡◌, ◌∙◌, refl, sym, ap, subst, ℕ, zero, suc, ◌+◌, ◌-◌, ◌<◌, ◌≤◌, List, [], ◌∷◌, ◌++◌, length, arith}
+use Rattle.std.proofs.Common.{◌≡◌, ◌∙◌, sym, ap, subst, ℕ, suc, ◌-◌, List, [], ◌∷◌, ◌++◌, arith}
 use Rattle.std.specs.Prelude.{IfOk, Result, Ok, Err, Option}
 use mathlib.Core.List.{IsPrefix}
 use Rattle.list_facts.proofs.Prefixes.{prefix_self}
@@ -11,9 +11,9 @@ use Rattle.table_schema.specs.declared.rows.Row.{Row}
 use Rattle.table_schema.specs.declared.widths.Widths.{Widths}
 use Rattle.ticket_place.specs.Sights.{Seen}
 use Rattle.wire_line.specs.declared.message.Message.{Message}
-use Rattle.waldo_table.specs.Tables.{Grows, IsCovered, IsOf, PassView, TableView, fresh_pass, gathered}
-use Rattle.race_play.specs.Askers.{AreAsked, WentEach}
-use Rattle.race_play.specs.Asking.{AsksAll, AsksOne, CanAsk}
+use Rattle.waldo_table.specs.Tables.{Grows, IsOf, PassView, TableView, fresh_pass, gathered}
+use Rattle.race_play.specs.Askers.{AreAsked}
+use Rattle.race_play.specs.Asking.{AsksAll, AsksOne}
 use Rattle.race_play.specs.Questions.{Gave, Question}
 use Rattle.race_play.specs.declared.setting.Crew.{Crew}
 use Rattle.race_play.proofs.Answering.{answers_more}

@@ -1,12 +1,12 @@
 -- From what was gathered to what is printed.
-use Rattle.std.proofs.Common.{◌≡◌, ◌∙◌, refl, sym, ap, subst, ℕ, zero, suc, ◌+◌, ◌<◌, ◌≤◌, Some, slice_get, List, [], ◌∷◌, length, map, arith}
+use Rattle.std.proofs.Common.{◌≡◌, ◌∙◌, refl, sym, ap, subst, ℕ, zero, suc, ◌+◌, ◌<◌, ◌≤◌, Some, slice_get, List, [], ◌∷◌, length, arith}
 use Rattle.std.proofs.lemmas.List.{length-map}
 use Rattle.std.proofs.lemmas.Option.{same_Some}
 use Rattle.prg_chacha.specs.declared.seed.Seed.{Seed}
 use Rattle.report_lines.specs.declared.lines.Line.{Line}
 use Rattle.table_schema.specs.declared.rows.Row.{Row}
-use Rattle.ticket_place.specs.Sights.{IsSound, Seen}
-use Rattle.list_facts.specs.Count.{once_below, times}
+use Rattle.ticket_place.specs.Sights.{IsSound}
+use Rattle.list_facts.specs.Count.{times}
 use Rattle.list_facts.proofs.Count.{times-once}
 use Rattle.waldo_table.specs.Tables.{PassView}
 use Rattle.race_play.specs.Filled.{IsGathered, all_places}
@@ -17,7 +17,7 @@ use Rattle.race_play.specs.Printed.{IsBackLine}
 use Rattle.race_play.specs.Raced.{HasFirst}
 use Rattle.race_play.specs.declared.gather.Gathered.{Gathered}
 use Rattle.race_play.proofs.Backs.{backs_stand}
-use Rattle.race_play.proofs.Gathering.{ended_long, has_first, written_of}
+use Rattle.race_play.proofs.Gathering.{has_first, written_of}
 use Rattle.race_play.proofs.Ordering.{whole_length}
 
 -- all writers' passes are gathered, and the first pass kept the room that no row wants

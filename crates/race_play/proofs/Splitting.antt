@@ -1,10 +1,9 @@
 -- A job for each writer.
-use Rattle.std.proofs.Common.{◌≡◌, ◌∙◌, refl, sym, ap, subst, ℕ, zero, suc, ◌+◌, ◌<◌, ◌≤◌, List, [], ◌∷◌, ◌++◌, length, All, take, drop, get_or, arith, length-append, append-nil}
+use Rattle.std.proofs.Common.{◌≡◌, ◌∙◌, sym, ap, subst, ℕ, suc, ◌+◌, ◌<◌, List, [], ◌∷◌, ◌++◌, length, All, take, drop, get_or, arith, length-append, append-nil}
 use Rattle.std.proofs.lemmas.List.{drop_all, take_all}
 use Rattle.std.proofs.lemmas.List.Elements.{All-push}
-use Rattle.waldo_table.specs.Tables.{IsOf, PassView, TableView, fresh_pass}
+use Rattle.waldo_table.specs.Tables.{PassView, TableView, fresh_pass}
 use Rattle.race_play.specs.Jobs.{AreNumbered, IsFresh, IsReady}
-use Rattle.race_play.specs.Turns.{turns}
 use Rattle.race_play.specs.declared.jobs.WriterJob.{WriterJob}
 
 pub numbered_snoc : (w : ℕ) (js : List WriterJob) (j : WriterJob) → AreNumbered w js → j.number ≡ w + length js → AreNumbered w (js ++ j ∷ [])

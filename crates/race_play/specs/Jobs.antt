@@ -1,5 +1,5 @@
 -- The jobs of writers, before and after their threads ran, and what is gathered from them.
-use Rattle.std.specs.Prelude.{◌≡◌, ℕ, zero, suc, ◌<◌, ◌≤◌, ⊤, All, IfSome, List, [], ◌∷◌, length, map}
+use Rattle.std.specs.Prelude.{◌≡◌, ℕ, suc, ◌<◌, ◌≤◌, ⊤, All, IfSome, List, [], ◌∷◌, length}
 use Rattle.prg_chacha.specs.declared.seed.Seed.{Seed}
 use Rattle.report_lines.specs.declared.lines.Line.{Line}
 use Rattle.table_schema.specs.declared.rows.Row.{Row}

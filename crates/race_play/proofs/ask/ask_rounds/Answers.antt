@@ -1,10 +1,9 @@
-use Rattle.std.proofs.Common.{◌≡◌, ◌∙◌, refl, ap, subst, sym, List, [], suc, ◌+◌, arith}
+use Rattle.std.proofs.Common.{◌≡◌, ◌∙◌, refl, ap, subst, List, suc, ◌+◌, arith}
 use Rattle.std.proofs.lemmas.Result.{IfOk-from_err}
 use Rattle.list_facts.proofs.Prefixes.{prefix_self}
-use Rattle.report_lines.specs.declared.lines.Line.{Line}
 use Rattle.wire_line.specs.Carried.{went_both}
 use Rattle.ticket_place.specs.Sights.{Seen}
-use Rattle.race_play.specs.Questions.{Question, messages_of}
+use Rattle.race_play.specs.Questions.{Question}
 use Rattle.race_play.proofs.Answering.{SoFar, rounds_next, so_far_more, so_far_none}
 use Rattle.race_play.proofs.Writing.{grows_trans}
 use Rattle.race_play.proofs.ask.ask_rounds.Goals as goal

@@ -1,4 +1,4 @@
-use Rattle.std.proofs.Common.{◌≡◌, ◌∙◌, ◌+◌, ◌≤◌, ℕ, ap, subst, length, arith}
+use Rattle.std.proofs.Common.{◌∙◌, ap, subst, arith}
 use Rattle.std.proofs.lemmas.List.{length-map}
 use Rattle.table_schema.specs.declared.widths.Widths.{Widths}
 use Rattle.ticket_place.specs.Sights.{Named}
@@ -32,8 +32,8 @@ returns-clause-raced g c =
     let a = ap (λ (p : PassView). p.sight.room) c.split_pass-mine.ensures.kept in
     let b = ap (λ (p : PassView). p.sight.room) c.gather.ensures.gathered in
     let all : IsGathered race.rows.now race.master race.crew.writers c.gather_all.new.pass.sight.order (places_in gathered) =
-        gathered_of _ _ _ _ _ gathered c.split_jobs.new.pass.sight.room c.requires.legal.writers (e.long ∙ c.run_both-asks.ensures.done.long ∙ s.long) e.all c.room.ensures.sound
-        (ap (λ (n : Named). n.capacity) e.pass.book) (s.room ∙ c.requires.whole) (let r = e.room in omega arith) in (
+    gathered_of _ _ _ _ _ gathered c.split_jobs.new.pass.sight.room c.requires.legal.writers (e.long ∙ c.run_both-asks.ensures.done.long ∙ s.long) e.all c.room.ensures.sound
+    (ap (λ (n : Named). n.capacity) e.pass.book) (s.room ∙ c.requires.whole) (let r = e.room in omega arith) in (
       asks.asked.0,
       asks.asked.1,
       record {
