@@ -1,5 +1,5 @@
 -- A writer's line over the order that is printed.
-use Rattle.std.proofs.Common.{◌≡◌, ◌∙◌, refl, sym, ap, subst, ℕ, zero, suc, ◌+◌, ◌-◌, ◌%◌, ◌<◌, ◌≤◌, ⊎_elim, true, false, Some, slice_get, List, [], ◌∷◌, ◌++◌, length, get_or, arith}
+use Rattle.std.proofs.Common.{◌≡◌, ◌∙◌, refl, sym, ap, subst, ℕ, zero, suc, ◌<◌, ◌≤◌, true, false, Some, slice_get, List, [], ◌∷◌, length, get_or, arith}
 use Rattle.std.proofs.lemmas.Bool.Decides.{nat_tests}
 use Rattle.std.proofs.lemmas.Option.{slice_get-get_or}
 use mathlib.Core.Logic.{dite}
@@ -8,16 +8,15 @@ use native.Mathlib.Decide.{ℕ_discrete}
 use Rattle.list_facts.specs.Count.{has, times}
 use Rattle.list_facts.proofs.Count.{times-append}
 use Rattle.list_facts.proofs.Prefixes.{prefix_length}
-use Rattle.prefix_log.specs.Journal.{prefix}
 use Rattle.prefix_log.proofs.Prefixes.{prefix_is_largest}
 use Rattle.prg_chacha.specs.declared.seed.Seed.{Seed}
 use Rattle.report_lines.specs.declared.lines.Line.{Line}
 use Rattle.report_lines.specs.declared.lines.Line.TheVariants as lines
 use Rattle.table_schema.specs.declared.rows.Row.{Row}
-use Rattle.waldo_table.specs.Tables.{Lacks, PassView, seat_of}
+use Rattle.waldo_table.specs.Tables.{PassView, seat_of}
 use Rattle.race_play.specs.Laws.{BacksStand, Stands}
-use Rattle.race_play.specs.Printed.{At, IsBackLine, IsPast}
-use Rattle.race_play.specs.Writes.{AreThere, IsBack, IsThere, Wrote_back, floor_over}
+use Rattle.race_play.specs.Printed.{IsBackLine, IsPast}
+use Rattle.race_play.specs.Writes.{AreThere, IsBack, IsThere, floor_over}
 
 there_at : (q : PassView) (k place : ℕ) → IsThere q place → has place (seat_of k q).seen ≡ true
 there_at q zero place t = t.zero

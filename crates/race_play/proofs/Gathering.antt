@@ -1,12 +1,10 @@
 -- What is gathered from the writers' jobs, one after another.
-use Rattle.std.proofs.Common.{◌≡◌, ◌∙◌, refl, sym, ap, subst, ℕ, zero, suc, ◌+◌, ◌<◌, ◌≤◌, List, [], ◌∷◌, ◌++◌, length, map, ⊎_elim, true, false, arith, append_assoc, append-nil, length-append}
-use mathlib.Core.List.{IsPrefix}
-use Rattle.list_facts.proofs.Prefixes.{prefix_trans}
+use Rattle.std.proofs.Common.{◌≡◌, ◌∙◌, refl, sym, ap, subst, ℕ, suc, ◌+◌, ◌<◌, ◌≤◌, List, [], ◌∷◌, ◌++◌, length, map, ⊎_elim, true, false, arith, append_assoc, append-nil}
 use Rattle.prg_chacha.specs.declared.seed.Seed.{Seed}
 use Rattle.report_lines.specs.declared.lines.Line.{Line}
 use Rattle.table_schema.specs.declared.rows.Row.{Row}
 use Rattle.std.proofs.lemmas.List.{length-map, map-append}
-use Rattle.waldo_table.specs.Tables.{Grows, IsCovered, PassView, gathered}
+use Rattle.waldo_table.specs.Tables.{Grows, PassView, gathered}
 use Rattle.std.proofs.lemmas.Bool.{cases_lt}
 use Rattle.std.proofs.lemmas.Bool.Decides.{nat_tests}
 use mathlib.Core.Logic.{dite}
@@ -18,6 +16,7 @@ use Rattle.prefix_log.proofs.Prefixes.{prefix_is_largest}
 use Rattle.race_play.specs.Writes.{AreThere, IsThere}
 use Rattle.race_play.specs.Filled.{HaveWritten, all_places}
 use Rattle.race_play.specs.Jobs.{Ended, HaveEnded}
+use Rattle.race_play.specs.Raced.{HasFirst}
 use Rattle.race_play.specs.Turns.{IsRising}
 use Rattle.race_play.proofs.Writing.{all_there_more, entries_more, grows_trans}
 
@@ -103,10 +102,10 @@ least : (journal : List ℕ) (n : ℕ) → ((x : ℕ) → x < n → has x journa
 least journal n all = ⊎_elim (λ (less : prefix journal < n). let yes : has (prefix journal) journal ≡ true = all (prefix journal) less in let gap : has (prefix journal) journal ≡ false = (prefix_is_largest journal).next in absurd cc)
     (λ (most : n ≤ prefix journal). most) (cases_lt (prefix journal) n)
 
--- so no server lacks a row below the floor
-pub covered : (rows : List Row) (master : Seed) (writers n : ℕ) (p : PassView) (places : List (List ℕ)) (lines : List Line) → HaveEnded rows master writers p 0 places lines → ((x : ℕ) → x < n → 0 < times x (all_places places)) → p.floor ≤ n → IsCovered p
-covered rows master writers n p places lines h all le = record {
-  zero = let l = least p.zero.seen n (λ x lt. (all_there rows master writers p 0 places lines x h (all x lt)).zero) in omega arith;
-  one = let l = least p.one.seen n (λ x lt. (all_there rows master writers p 0 places lines x h (all x lt)).one) in omega arith;
-  two = let l = least p.two.seen n (λ x lt. (all_there rows master writers p 0 places lines x h (all x lt)).two) in omega arith;
+-- so no server lacks one of the first rows
+pub has_first : (rows : List Row) (master : Seed) (writers n : ℕ) (p : PassView) (places : List (List ℕ)) (lines : List Line) → HaveEnded rows master writers p 0 places lines → ((x : ℕ) → x < n → 0 < times x (all_places places)) → HasFirst n p
+has_first rows master writers n p places lines h all = record {
+  zero = least p.zero.seen n (λ x lt. (all_there rows master writers p 0 places lines x h (all x lt)).zero);
+  one = least p.one.seen n (λ x lt. (all_there rows master writers p 0 places lines x h (all x lt)).one);
+  two = least p.two.seen n (λ x lt. (all_there rows master writers p 0 places lines x h (all x lt)).two);
 }

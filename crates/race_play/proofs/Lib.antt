@@ -1,10 +1,15 @@
+pub mod Answering
 pub mod Asking
 pub mod Backs
+pub mod Beside
 pub mod Filling
 pub mod Gathering
 pub mod Ordering
 pub mod Orders
+pub mod Playing
 pub mod Racing
+pub mod Reporting
 pub mod Splitting
 pub mod Sums
 pub mod Writing
+pub mod Yielding

@@ -1,20 +1,20 @@
 -- The order that is filled from what the writers wrote.
-use Rattle.std.proofs.Common.{◌≡◌, ◌≢◌, ◌∙◌, refl, sym, ap, subst, ℕ, zero, suc, ◌+◌, ◌-◌, ◌%◌, ◌<◌, ◌≤◌, ◌⊎◌, inl, inr, ⊎_elim, Bool, true, false, cond, eqb, eq-eqb, ne_eqb, Some, None, slice_get, List, [], ◌∷◌, ◌++◌, length, max, arith, length-append, append-nil}
+use Rattle.std.proofs.Common.{◌≡◌, ◌≢◌, ◌∙◌, refl, sym, ap, subst, ℕ, zero, suc, ◌+◌, ◌-◌, ◌%◌, ◌<◌, ◌≤◌, ◌⊎◌, inl, inr, ⊎_elim, Some, slice_get, List, [], ◌∷◌, ◌++◌, length, max, arith, length-append}
 use Rattle.std.proofs.lemmas.Bool.Decides.{nat_tests}
 use Rattle.std.proofs.lemmas.Option.{same_Some, slice_get_within}
 use mathlib.Core.Logic.{dite}
 use native.Mathlib.Decide.{ℕ_discrete}
-use Rattle.list_facts.specs.Count.{once_below, times, total}
+use Rattle.list_facts.specs.Count.{once_below, times}
 use Rattle.list_facts.proofs.Count.{length_once, once_below_most, times-append, times-once}
 use Rattle.prg_chacha.specs.declared.seed.Seed.{Seed}
 use Rattle.table_schema.specs.declared.rows.Row.{Row}
 use Rattle.race_play.specs.Filled.{HaveWritten, IsGathered, all_places, filled, filled_all}
-use Rattle.race_play.specs.Laws.{AreBlank, GatheredStands}
+use Rattle.race_play.specs.Laws.{GatheredStands}
 use Rattle.race_play.specs.Printed.{At}
 use Rattle.race_play.specs.Turns.{IsRising, turns}
 use Rattle.race_play.specs.Writes.{AreEntries, IsEntry, floor_over}
 use Rattle.race_play.proofs.Filling.{Free, InPair, filled_at, filled_count, filled_keeps, filled_long, in_times, pair_of}
-use Rattle.race_play.proofs.Sums.{length_total, times_total, tot, tot_once, tot_ones, tsum, tsum_all}
+use Rattle.race_play.proofs.Sums.{length_total, times_total, tot_once, tot_ones, tsum, tsum_all}
 use Rattle.race_play.proofs.Writing.{Below, entries_long, rising_snoc, turns_no, turns_yes}
 
 -- ---- the turns of one writer

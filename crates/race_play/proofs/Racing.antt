@@ -1,22 +1,23 @@
 -- From what was gathered to what is printed.
-use Rattle.std.proofs.Common.{◌≡◌, ◌∙◌, refl, sym, ap, subst, ℕ, zero, suc, ◌+◌, ◌<◌, ◌≤◌, Some, slice_get, List, [], ◌∷◌, length, map, arith}
+use Rattle.std.proofs.Common.{◌≡◌, ◌∙◌, refl, sym, ap, subst, ℕ, zero, suc, ◌+◌, ◌<◌, ◌≤◌, Some, slice_get, List, [], ◌∷◌, length, arith}
 use Rattle.std.proofs.lemmas.List.{length-map}
 use Rattle.std.proofs.lemmas.Option.{same_Some}
 use Rattle.prg_chacha.specs.declared.seed.Seed.{Seed}
 use Rattle.report_lines.specs.declared.lines.Line.{Line}
 use Rattle.table_schema.specs.declared.rows.Row.{Row}
-use Rattle.ticket_place.specs.Sights.{IsSound, Seen}
-use Rattle.list_facts.specs.Count.{once_below, times}
+use Rattle.ticket_place.specs.Sights.{IsSound}
+use Rattle.list_facts.specs.Count.{times}
 use Rattle.list_facts.proofs.Count.{times-once}
-use Rattle.waldo_table.specs.Tables.{IsCovered, IsLegal, PassView}
+use Rattle.waldo_table.specs.Tables.{PassView}
 use Rattle.race_play.specs.Filled.{IsGathered, all_places}
 use Rattle.race_play.specs.Gathers.{IsAll, places_in}
 use Rattle.race_play.specs.Jobs.{HaveEnded}
 use Rattle.race_play.specs.Laws.{Stands}
 use Rattle.race_play.specs.Printed.{IsBackLine}
+use Rattle.race_play.specs.Raced.{HasFirst}
 use Rattle.race_play.specs.declared.gather.Gathered.{Gathered}
 use Rattle.race_play.proofs.Backs.{backs_stand}
-use Rattle.race_play.proofs.Gathering.{covered, ended_long, written_of}
+use Rattle.race_play.proofs.Gathering.{has_first, written_of}
 use Rattle.race_play.proofs.Ordering.{whole_length}
 
 -- all writers' passes are gathered, and the first pass kept the room that no row wants
@@ -53,12 +54,11 @@ module _ (rows : List Row) (master : Seed) (writers : ℕ) (p : PassView) (place
       subst (λ (n : ℕ). IsBackLine (length rows) writers printed n line) z
       (back_at 0 w places lines line (λ j o e. subst (λ (n : ℕ). slice_get places n ≡ Some o) (let y : j ≡ 0 + j = omega arith in y) e) h at)
 
--- all places of the order are there, so the pass is covered
-pub covered_of : (rows : List Row) (master : Seed) (writers : ℕ) (p : PassView) (g : Gathered) → IsAll rows master writers p g → IsGathered rows master writers p.sight.order (places_in g) → length p.sight.order ≡ length rows → IsLegal p → IsCovered p
-covered_of rows master writers p g all gathered same legal =
-    covered rows master writers (length rows) p (places_in g) g.lines.items all.ended
+-- all places of the order are at the three servers
+pub first_of : (rows : List Row) (master : Seed) (writers : ℕ) (p : PassView) (g : Gathered) → IsAll rows master writers p g → IsGathered rows master writers p.sight.order (places_in g) → length p.sight.order ≡ length rows → HasFirst (length rows) p
+first_of rows master writers p g all gathered same =
+    has_first rows master writers (length rows) p (places_in g) g.lines.items all.ended
     (λ x lt. let one = times-once (all_places (places_in g)) (length p.sight.order) gathered.apart (let long = all_rows in omega arith) x (omega arith) in omega arith)
-    (let f = legal.floor in omega arith)
   where
     all_rows : length (all_places (places_in g)) ≡ length rows
     all_rows = whole_length rows master writers p.sight.order (places_in g) gathered

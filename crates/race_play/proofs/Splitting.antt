@@ -1,10 +1,9 @@
 -- A job for each writer.
-use Rattle.std.proofs.Common.{◌≡◌, ◌∙◌, refl, sym, ap, subst, ℕ, zero, suc, ◌+◌, ◌<◌, ◌≤◌, List, [], ◌∷◌, ◌++◌, length, All, take, drop, get_or, arith, length-append, append-nil}
+use Rattle.std.proofs.Common.{◌≡◌, ◌∙◌, sym, ap, subst, ℕ, suc, ◌+◌, ◌<◌, List, [], ◌∷◌, ◌++◌, length, All, take, drop, get_or, arith, length-append, append-nil}
 use Rattle.std.proofs.lemmas.List.{drop_all, take_all}
 use Rattle.std.proofs.lemmas.List.Elements.{All-push}
-use Rattle.waldo_table.specs.Tables.{IsOf, PassView, TableView, fresh_pass}
+use Rattle.waldo_table.specs.Tables.{PassView, TableView, fresh_pass}
 use Rattle.race_play.specs.Jobs.{AreNumbered, IsFresh, IsReady}
-use Rattle.race_play.specs.Turns.{turns}
 use Rattle.race_play.specs.declared.jobs.WriterJob.{WriterJob}
 
 pub numbered_snoc : (w : ℕ) (js : List WriterJob) (j : WriterJob) → AreNumbered w js → j.number ≡ w + length js → AreNumbered w (js ++ j ∷ [])
@@ -28,9 +27,9 @@ long_push js new j n is e = omega (arith, ap length is, length-append js (j ∷ 
 
 -- ---- a list whose elements were changed in place
 
-pub whole_slice : (xs new : List WriterJob) (len : ℕ) → length new ≡ length xs → len ≡ length xs → take len (new ++ drop (length new) xs) ≡ new
+pub whole_slice : {X : Type 0} (xs new : List X) (len : ℕ) → length new ≡ length xs → len ≡ length xs → take len (new ++ drop (length new) xs) ≡ new
 whole_slice xs new len long is =
-    ap (λ (n : ℕ). take len (new ++ drop n xs)) long ∙ ap (λ (l : List WriterJob). take len (new ++ l)) (drop_all (length xs) xs (omega arith)) ∙ ap (take len) (append-nil new) ∙ take_all len new (omega arith)
+    ap (λ (n : ℕ). take len (new ++ drop n xs)) long ∙ ap (λ l. take len (new ++ l)) (drop_all (length xs) xs (omega arith)) ∙ ap (take len) (append-nil new) ∙ take_all len new (omega arith)
 
 pub numbered_same : (w : ℕ) (old new : List WriterJob) → length new ≡ length old → ((i : ℕ) (d : WriterJob) → i < length old → (get_or new i d).number ≡ (get_or old i d).number) → AreNumbered w old → AreNumbered w new
 numbered_same w [] [] long same n = tt

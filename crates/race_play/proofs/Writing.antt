@@ -1,7 +1,6 @@
 -- A writer's rows, one after another.
 use Rattle.std.proofs.Common.{◌≡◌, ◌∙◌, refl, sym, ap, subst, ℕ, zero, suc, ◌+◌, ◌%◌, ◌<◌, ◌≤◌, Bool, true, false, Some, slice_get, List, [], ◌∷◌, ◌++◌, length, max, arith, append_assoc, append-nil, length-append, eq-eqb, ne_eqb, ◌≢◌, eqb, cond, ◌-◌}
 use mathlib.Core.List.{IsPrefix}
-use Rattle.list_facts.specs.Count.{has}
 use Rattle.list_facts.proofs.Prefixes.{prefix_length, prefix_trans}
 use Rattle.std.proofs.lemmas.Option.{slice_get_within}
 use Rattle.agreed_rows.proofs.Elements.{prefix_get}

@@ -1,5 +1,5 @@
 -- The order that is filled from what the writers wrote.
-use Rattle.std.specs.Prelude.{◌≡◌, ℕ, zero, suc, ◌+◌, ◌≤◌, ◌<◌, ⊤, List, [], ◌∷◌, ◌++◌, length, slice_set}
+use Rattle.std.specs.Prelude.{◌≡◌, ℕ, suc, ◌≤◌, ◌<◌, ⊤, List, [], ◌∷◌, ◌++◌, length, slice_set}
 use Rattle.list_facts.specs.Count.{once_below, times}
 use Rattle.prg_chacha.specs.declared.seed.Seed.{Seed}
 use Rattle.table_schema.specs.declared.rows.Row.{Row}

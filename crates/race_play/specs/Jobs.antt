@@ -1,5 +1,5 @@
 -- The jobs of writers, before and after their threads ran, and what is gathered from them.
-use Rattle.std.specs.Prelude.{◌≡◌, ℕ, zero, suc, ◌<◌, ◌≤◌, ⊤, IfSome, List, [], ◌∷◌, length, map}
+use Rattle.std.specs.Prelude.{◌≡◌, ℕ, suc, ◌<◌, ◌≤◌, ⊤, All, IfSome, List, [], ◌∷◌, length}
 use Rattle.prg_chacha.specs.declared.seed.Seed.{Seed}
 use Rattle.report_lines.specs.declared.lines.Line.{Line}
 use Rattle.table_schema.specs.declared.rows.Row.{Row}
@@ -44,3 +44,9 @@ HaveEnded rows master writers p w [] (line ∷ lines) = ⊥
 HaveEnded rows master writers p w (places ∷ more) [] = ⊥
 HaveEnded rows master writers p w (places ∷ more) (line ∷ lines) =
     ((q : PassView) × Ended rows master writers w places line q × Grows q p) × HaveEnded rows master writers p (suc w) more lines
+
+-- the jobs of all writers, before and after their threads ran
+pub record AllDone (t : TableView) (rows : List Row) (master : Seed) (writers : ℕ) (old new : List WriterJob) : Type 0 where
+  pub done : All (IsDone t rows master writers) new
+  pub numbered : AreNumbered 0 old → AreNumbered 0 new
+  pub long : length new ≡ length old

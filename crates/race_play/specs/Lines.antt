@@ -1,5 +1,5 @@
 -- The line of an agreement, and of an ask.
-use Rattle.std.specs.Prelude.{◌≡◌, ℕ, Result, Ok, Err}
+use Rattle.std.specs.Prelude.{ℕ, Result, Ok, Err}
 use Rattle.report_lines.specs.declared.lines.Line.{Line}
 use Rattle.report_lines.specs.declared.lines.Line.TheVariants as lines
 use Rattle.report_lines.specs.declared.lines.Who.{Who}

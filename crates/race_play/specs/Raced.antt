@@ -1,17 +1,30 @@
--- What writers at once came to.
-use Rattle.std.specs.Prelude.{◌≡◌, ℕ, Some, List, length, slice_get}
-use Rattle.prg_chacha.specs.declared.seed.Seed.{Seed}
+-- What writers and askers at once came to.
+use Rattle.std.specs.Prelude.{◌≡◌, ℕ, ◌+◌, ◌≤◌, Some, List, length, slice_get}
+use Rattle.prefix_log.specs.Journal.{prefix}
 use Rattle.report_lines.specs.declared.lines.Line.{Line}
-use Rattle.table_schema.specs.declared.rows.Row.{Row}
-use Rattle.waldo_table.specs.Tables.{IsCovered, PassView}
+use Rattle.wire_line.specs.declared.message.Message.{Message}
+use Rattle.waldo_table.specs.Tables.{PassView}
+use Rattle.race_play.specs.Askers.{AreAsked}
 use Rattle.race_play.specs.Laws.{Stands}
 use Rattle.race_play.specs.Printed.{IsBackLine}
-use Rattle.race_play.specs.declared.race.Raced.{Raced}
+use Rattle.race_play.specs.Settings.{Setting}
+use Rattle.race_play.specs.declared.together.Raced.{Raced}
 
--- an order of all rows, which is that of the pass, whose servers have them all, and a line for each writer over it
-pub record IsRaced (rows : List Row) (master : Seed) (writers : ℕ) (p : PassView) (r : Raced) : Type 0 where
+-- each server has the first n places, as the pass has seen
+pub record HasFirst (n : ℕ) (p : PassView) : Type 0 where
+  pub zero : n ≤ prefix p.zero.seen
+  pub one : n ≤ prefix p.one.seen
+  pub two : n ≤ prefix p.two.seen
+
+-- an order of all rows, which is that of the pass, whose servers have them all, with no room but for what no row needs; a line for each writer over it; and the lines of the askers,
+-- with their messages
+pub record IsRaced (s : Setting) (p : PassView) (sent : List (List Message)) (r : Raced) : Type 0 where
   pub places : List (List ℕ)
-  pub stands : Stands rows master writers p.sight.order places r.order.items
-  pub covered : IsCovered p
-  pub long : length r.lines.items ≡ writers
-  pub backs : (w : ℕ) (line : Line) → slice_get r.lines.items w ≡ Some line → IsBackLine (length rows) writers r.order.items w line
+  pub stands : Stands s.rows s.master s.writers p.sight.order places r.order.items
+  pub all : HasFirst (length s.rows) p
+  pub floor : p.floor ≤ length s.rows
+  pub full : p.sight.book.capacity ≤ p.sight.room + length s.rows
+  pub long : length r.backs.items ≡ s.writers
+  pub backs : (w : ℕ) (line : Line) → slice_get r.backs.items w ≡ Some line → IsBackLine (length s.rows) s.writers r.order.items w line
+  pub askers : length sent ≡ s.askers
+  pub asks : AreAsked s.widths s.queries s.master s.rounds p.sight.order 0 sent r.asks

@@ -1,67 +1,64 @@
 -- What a race prints. No order in time of its threads is fixed, so this is a relation.
-use Rattle.std.specs.Prelude.{◌≡◌, ℕ, zero, suc, ◌+◌, ◌*◌, ◌%◌, ◌<◌, ◌≤◌, Some, List, [], ◌∷◌, ◌++◌, length, take, slice_get}
-use Rattle.onehot_column.specs.Code.{word_of}
-use Rattle.query_plan.specs.declared.query.Query.{Query}
+use Rattle.std.specs.Prelude.{◌≡◌, ℕ, suc, ◌%◌, Bool, true, false, Some, List, [], ◌∷◌, ◌++◌, length, slice_get}
+use Rattle.prg_chacha.specs.declared.seed.Seed.{Seed}
 use Rattle.report_lines.specs.declared.lines.Line.{Line}
 use Rattle.report_lines.specs.declared.lines.Line.TheVariants as lines
-use Rattle.report_lines.specs.declared.lines.Who.{Who}
-use Rattle.report_lines.specs.declared.lines.Who.TheVariants as who
 use Rattle.table_schema.specs.declared.rows.Row.{Row}
-use Rattle.transcript.specs.Plain.{plain}
-use Rattle.race_play.specs.Printed.{IsBackLine, IsOrder}
+use Rattle.wire_line.specs.declared.message.Message.{Message}
+use Rattle.race_play.specs.Askers.{AreAsked, more_over_first}
+use Rattle.race_play.specs.Printed.{At, IsBackLine, IsOrder}
+use Rattle.race_play.specs.Questions.{Gave, ends_of}
+use Rattle.race_play.specs.Settings.{Setting}
+use Rattle.race_play.specs.Writes.{IsEntry}
 
--- the input rows, the queries, and how many writers, askers and rounds there are
-pub record Setting : Type 0 where
-  pub rows : List Row
-  pub queries : List Query
-  pub writers : ℕ
-  pub askers : ℕ
-  pub rounds : ℕ
-
--- the rows in the order that is printed
-pub record AreRowsAt (rows : List Row) (order : List ℕ) (placed : List Row) : Type 0 where
-  pub long : length placed ≡ length order
-  pub each : (place i : ℕ) → slice_get order place ≡ Some i → slice_get placed place ≡ slice_get rows i
+-- the entries of the printed order: at each place the row that is printed, with its writer's seed
+pub record AreEntriesOf (s : Setting) (order : List ℕ) (entries : List (Row × Seed)) : Type 0 where
+  pub long : length entries ≡ length s.rows
+  pub each : (place i : ℕ) → At order place i → IsEntry s.rows s.master (i % s.writers) entries i place
 
 -- a line for each place, rising
 abbrev pub place_lines : ℕ → List ℕ → List Line
 place_lines place [] = []
 place_lines place (i ∷ order) = lines.Place place i ∷ place_lines (suc place) order
 
--- an answer over the first n printed rows: the plain one, where its wire altered nothing
-abbrev pub IsAnswerLine : List Row → Query → Who → Type 0 → ℕ → Line → Type 0
-IsAnswerLine placed query by unaltered n (lines.Answer who rows aggregate total) =
-    (who ≡ by) × (rows ≡ n) × (aggregate ≡ query.aggregate) × (unaltered → total ≡ word_of (plain query (take n placed)))
-IsAnswerLine placed query by unaltered n (lines.Altered who rows total weighted) = (who ≡ by) × (rows ≡ n) × ¬ unaltered
-IsAnswerLine placed query by unaltered n line = ⊥
-
--- the lines of an asker: one a round, of each query in turn, over a number of rows that never falls and is at most all
-pub record AreRounds (s : Setting) (placed : List Row) (asker : ℕ) (unaltered : Type 0) (seen : List ℕ) (said : List Line) : Type 0 where
-  pub long : length said ≡ s.rounds
-  pub rows : length seen ≡ s.rounds
-  pub most : (r n : ℕ) → slice_get seen r ≡ Some n → n ≤ length s.rows
-  pub rise : (q r m n : ℕ) → q ≤ r → slice_get seen q ≡ Some m → slice_get seen r ≡ Some n → m ≤ n
-  pub each : (r n : ℕ) (line : Line) (query : Query) → slice_get seen r ≡ Some n → slice_get said r ≡ Some line → slice_get s.queries (r % length s.queries) ≡ Some query
-      → IsAnswerLine placed query (who.Round asker r) unaltered n line
-
-abbrev pub all_of : List (List Line) → List Line
-all_of [] = []
-all_of (ls ∷ more) = ls ++ all_of more
-
 -- A report: how many rows there are, which row stands at each place, what each writer saw after its rows, what each asker was told round by
--- round, and each query over all rows; all over the one printed order
-pub record Reports (s : Setting) (unaltered : ℕ → Type 0) (said : List Line) : Type 0 where
+-- round, and each query over all rows; all over the one printed order. The messages went over the askers' wires, those of the last
+-- queries over the first one.
+pub record Reports (s : Setting) (sent : List (List Message)) (said : List Line) : Type 0 where
   pub order : List ℕ
-  pub placed : List Row
+  pub entries : List (Row × Seed)
   pub backs : List Line
-  pub asks : List (List Line)
+  pub asks : List Line
   pub ends : List Line
-  pub text : said ≡ lines.Rows (length s.rows) ∷ place_lines 0 order ++ backs ++ all_of asks ++ ends
+  pub rounds : List (List Message)
+  pub last : List Message
+  pub text : said ≡ lines.Rows (length s.rows) ∷ place_lines 0 order ++ backs ++ asks ++ ends
   pub is_order : IsOrder (length s.rows) s.writers order
-  pub rows : AreRowsAt s.rows order placed
+  pub are_entries : AreEntriesOf s order entries
   pub all_backs : length backs ≡ s.writers
   pub back : (w : ℕ) (line : Line) → slice_get backs w ≡ Some line → IsBackLine (length s.rows) s.writers order w line
-  pub all_asks : length asks ≡ s.askers
-  pub ask : (a : ℕ) (ls : List Line) → slice_get asks a ≡ Some ls → (seen : List ℕ) × AreRounds s placed a (unaltered a) seen ls
-  pub all_ends : length ends ≡ length s.queries
-  pub end : (q : ℕ) (query : Query) (line : Line) → slice_get s.queries q ≡ Some query → slice_get ends q ≡ Some line → IsAnswerLine placed query (who.End q) (unaltered 0) (length s.rows) line
+  pub all_askers : length rounds ≡ s.askers
+  pub asked : AreAsked s.widths s.queries s.master s.rounds entries 0 rounds asks
+  pub ended : Gave s.widths entries (length s.rows) (ends_of s.queries s.master (length s.queries)) last ends
+  pub over : sent ≡ more_over_first last rounds
+
+-- a line of a pair that the check refused
+abbrev pub is_altered : Line → Bool
+is_altered (lines.Answer by rows aggregate total) = false
+is_altered (lines.Altered by rows total weighted) = true
+is_altered (lines.Again by server had floor) = false
+is_altered (lines.Draw actor place) = false
+is_altered (lines.Look actor server prefix) = false
+is_altered (lines.Rows count) = false
+is_altered (lines.Place place row) = false
+is_altered (lines.Back writer rows) = false
+is_altered (lines.BackAgain writer server had floor) = false
+is_altered (lines.Trace index server visits words) = false
+is_altered (lines.BadWord index) = false
+is_altered (lines.Missing name) = false
+is_altered (lines.BadStep index) = false
+is_altered lines.ReadFault = false
+is_altered lines.TooLong = false
+is_altered lines.Header = false
+is_altered (lines.BadRecord number why) = false
+is_altered (lines.TooMany capacity) = false

@@ -3,7 +3,7 @@ ghost use Rattle.std.specs.Prelude.{◌≡◌, ℕ, ◌≤◌, ◌+◌, [], All,
 ghost use Rattle.list_facts.specs.Count.{once_below, times};
 ghost use Rattle.report_lines.specs.declared.lines.Line.{Line};
 ghost use Rattle.ticket_place.specs.Sights.{IsSound};
-ghost use Rattle.waldo_table.specs.Tables.{IsOf};
+ghost use Rattle.waldo_table.specs.Tables.{Grows, IsOf};
 ghost use Rattle.race_play.specs.Filled.{filled, filled_all};
 ghost use Rattle.race_play.specs.Gathers.{IsAll, places_in};
 ghost use Rattle.race_play.specs.Jobs.{AreNumbered, HaveEnded, IsDone};
@@ -39,6 +39,7 @@ fn take_in(
     requires number { job.number ≡ length gathered.old.places.items }
     requires all { IsAll rows.now master.now writers pass.old gathered.old }
     ensures pass { IsOf table.now pass.new }
+    ensures grows { Grows pass.old pass.new }
     ensures room { pass.old.sight.room ≤ pass.new.sight.room }
     ensures sound { IsSound pass.new.sight }
     ensures all { IfOk result (λ _. IsAll rows.now master.now writers pass.new gathered.new) }
@@ -73,6 +74,7 @@ pub fn gather_all(
     requires numbered { AreNumbered 0 jobs.items }
     requires own { pass.old.sight.own ≡ [] }
     ensures pass { IsOf table.now pass.new }
+    ensures grows { Grows pass.old pass.new }
     ensures room { pass.old.sight.room ≤ pass.new.sight.room }
     ensures all { IfOk result (IsAll rows.now master.now writers pass.new) }
     ensures long { IfOk result (λ g. length g.places.items ≡ length jobs.items) }

@@ -22,6 +22,34 @@ use std::thread::Threads;
 use waldo_table::{Pass, Table};
 use wire_line::Wire;
 
+/// Asks a query, with its seed, over the rows that the three servers have.
+pub(crate) fn ask_line<R: Threads + Wait + Sync, W: Wire>(
+    rt: &R,
+    alloc: Global,
+    table: &Table,
+    pass: &mut Pass,
+    who: Who,
+    query: &Query,
+    seed: &Seed,
+    wire: &mut W,
+    workers: u8,
+) -> Result<Line, Memory>
+    requires pass { IsOf table.now pass.old }
+    requires covered { IsCovered pass.old }
+    requires suits { Suits table.now.widths.columns table.now.widths.bits query.now }
+    requires some { 0 < workers }
+    ensures pass { IsOf table.now pass.new }
+    ensures grows { Grows pass.old pass.new }
+    ensures own { pass.new.sight ≡ record pass.old.sight { order = pass.new.sight.order } }
+    ensures covered { IfOk result (λ _. IsCovered pass.new) }
+    ensures asks { (ms : List Message) × (pair : OpenedPair) × Went W.told W.alterations W.passes wire.old ms wire.new
+        × IfOk result (Asks table.now.widths pass.old pass.new who query.now seed.now ms pair) }
+    ensures plain { ¬ Rose (W.alterations wire.old) (W.alterations wire.new) → IfOk result (IsPlainLine table.now.widths pass.new who query.now) }
+{
+    let asked = table.ask(rt, alloc, pass, query, seed, wire, workers);
+    line_of_ask(who, pass.floor(), query.aggregate, asked)
+}
+
 /// Asks a query over the rows that the three servers have, and passes the gate.
 pub fn ask_round<R: Threads + Wait + Sync, W: Wire, G: Gate>(
     rt: &R,
@@ -49,12 +77,11 @@ pub fn ask_round<R: Threads + Wait + Sync, W: Wire, G: Gate>(
     ensures plain { ¬ Rose (W.alterations wire.old) (W.alterations wire.new) → IfOk result (IsPlainLine table.now.widths pass.new (who.Round asker round) query.now) }
 {
     let seed = derive(master, 2, u16::from(asker), u64::from(round));
-    let asked = table.ask(rt, alloc, pass, query, &seed, wire, workers);
     let who = Who::Round {
         actor: asker,
         round: u64::from(round),
     };
-    let line = line_of_ask(who, pass.floor(), query.aggregate, asked)?;
+    let line = ask_line(rt, alloc, table, pass, who, query, &seed, wire, workers)?;
     gate.pass(Point::AfterAnswer { asker, round });
     Ok(line)
 }

@@ -19,6 +19,6 @@ mod reports;
 mod sink;
 
 pub use lines::{Line, RowWhy, Who};
-pub use names::NameText;
+pub use names::{Name, NameText};
 pub use reports::{Report, text};
 pub use sink::{Failed, MemorySink, Sink, SureSink};

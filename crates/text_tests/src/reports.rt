@@ -1,4 +1,4 @@
-use report_lines::{Line, MemorySink, NameText, Report, RowWhy, Sink, SureSink, Who, text};
+use report_lines::{Line, MemorySink, Name, NameText, Report, RowWhy, Sink, SureSink, Who, text};
 use std::test::Fail;
 use table_schema::Aggregate;
 
@@ -9,7 +9,7 @@ fn texts(rt: HostRuntime) -> Result<(), Fail> {
     let round = Who::Round { actor: 2, round: 3 };
     let end = Who::End(4);
     let (count, sum) = (Aggregate::Count, Aggregate::Sum);
-    let name = NameText::new("--query");
+    let name = NameText::new(Name::Query);
     let lines = [
         (
             Line::Answer {

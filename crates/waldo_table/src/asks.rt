@@ -4,7 +4,7 @@ ghost use Rattle.fault_count.specs.Causes.{Rose};
 ghost use Rattle.query_plan.specs.Query.{Suits};
 ghost use Rattle.server_rounds.specs.declared.opened.OpenedPair.{OpenedPair};
 ghost use Rattle.ticket_place.specs.Sights.{IsSound};
-ghost use Rattle.wire_line.specs.Messages.{Went};
+ghost use Rattle.wire_line.specs.Messages.{IsHonest, Went};
 ghost use Rattle.wire_line.specs.declared.message.Message.{Message};
 ghost use Rattle.waldo_table.specs.Asks.{Asked, IsNeverAgain, IsPlainAsk};
 ghost use Rattle.waldo_table.specs.Tables.{Grows, IsCovered, IsOf};
@@ -45,7 +45,8 @@ impl Table {
         ensures sight { pass.new.sight ≡ record pass.old.sight { order = pass.new.sight.order } }
         ensures sound { IsSound pass.new.sight }
         ensures asked { (ms : List Message) × (pair : OpenedPair) × Went W.told W.alterations W.passes wire.old ms wire.new
-            × Asked self.now.widths pass.old pass.new query.now seed.now ms pair result }
+            × Asked self.now.widths pass.old pass.new query.now seed.now ms pair result
+            × (IsHonest ms → IsPlainAsk self.now.widths pass.new query.now result) }
         ensures plain { ¬ Rose (W.alterations wire.old) (W.alterations wire.new) → IsPlainAsk self.now.widths pass.new query.now result }
         ensures never { IsCovered pass.old → IsNeverAgain result }
     {

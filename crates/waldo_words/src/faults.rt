@@ -1,8 +1,9 @@
 //! Why words are refused.
 ghost use Rattle.std.specs.Prelude.{◌≡◌};
+ghost use Rattle.report_lines.specs.Names.{name_text};
 ghost use Rattle.waldo_words.specs.declared.faults.WordFault.TheVariants.{Missing};
 
-use report_lines::NameText;
+use report_lines::{Name, NameText};
 use std::alloc::{AllocError, AllocFailed};
 
 /// Why the words are refused: the first of them, from 0, that is bad; or the name of what is missing behind good ones; or
@@ -16,11 +17,11 @@ pub enum WordFault {
 
 impl WordFault {
     /// What has this name is missing.
-    pub(crate) fn missing(text: &'static str) -> WordFault
-        ensures { result ≡ Missing text.now }
+    pub(crate) fn missing(name: Name) -> WordFault
+        ensures { result ≡ Missing (name_text name) }
     {
         WordFault::Missing {
-            name: NameText::new(text),
+            name: NameText::new(name),
         }
     }
 }

@@ -11,6 +11,7 @@ use crate::names::CommandName;
 use crate::schedule::Schedule;
 use crate::seeds::plain_seed;
 use crate::shifts::ShiftWords;
+use report_lines::Name;
 use table_schema::Schema;
 
 /// The command with the options found, or the first required one that is missing.
@@ -40,7 +41,7 @@ pub(crate) fn finish(
     } = found;
     let capacity = capacity.unwrap_or(schema.widths().largest());
     if queries.is_empty() {
-        return Err(WordFault::missing("--query"));
+        return Err(WordFault::missing(Name::Query));
     }
     let common = Common {
         schema,
@@ -69,7 +70,7 @@ fn replay(common: Common, schedule: Option<Schedule>) -> Result<Command, WordFau
     ensures { Reads (λ command. command) result (replayed common schedule) }
 {
     match schedule {
-        None => Err(WordFault::missing("--schedule")),
+        None => Err(WordFault::missing(Name::Schedule)),
         Some(schedule) => Ok(Command::Replay { common, schedule }),
     }
 }
@@ -79,7 +80,7 @@ fn tamper(common: Common, shifts: ShiftWords) -> Result<Command, WordFault>
     ensures { Reads (λ command. command) result (tampered common shifts) }
 {
     if shifts.is_empty() {
-        return Err(WordFault::missing("--shift"));
+        return Err(WordFault::missing(Name::Shift));
     }
     Ok(Command::Tamper { common, shifts })
 }
@@ -89,11 +90,11 @@ fn make(common: Common, number: Option<u32>, rows: Option<u32>) -> Result<Comman
     ensures { Reads (λ command. command) result (made common number rows) }
 {
     let number = match number {
-        None => return Err(WordFault::missing("--number")),
+        None => return Err(WordFault::missing(Name::Number)),
         Some(number) => number,
     };
     match rows {
-        None => Err(WordFault::missing("--rows")),
+        None => Err(WordFault::missing(Name::Rows)),
         Some(rows) => Ok(Command::Make {
             common: Common {
                 capacity: rows,

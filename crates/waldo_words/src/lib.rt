@@ -35,6 +35,6 @@ pub use command::{Command, Common};
 pub use faults::WordFault;
 pub use queries::Queries;
 pub use read::read_words;
-pub use report_lines::NameText;
+pub use report_lines::{Name, NameText};
 pub use schedule::{Schedule, Step};
 pub use shifts::{Amount, ShiftWord, ShiftWords};

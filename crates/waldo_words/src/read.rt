@@ -11,6 +11,7 @@ use crate::finish::finish;
 use crate::found::Found;
 use crate::names::{CommandName, command_name};
 use crate::progress::Progress;
+use report_lines::Name;
 use std::alloc::Global;
 use table_schema::{Schema, SchemaFault, read_schema};
 
@@ -22,7 +23,7 @@ pub fn read_words(alloc: Global, words: &[String]) -> Result<Command, WordFault>
     ensures legal { IfOk result IsLegal }
 {
     match words {
-        [] => Err(WordFault::missing("command")),
+        [] => Err(WordFault::missing(Name::Command)),
         [word, rest @ ..] => match command_name(word.as_str()) {
             None => Err(WordFault::Word { index: 0 }),
             Some(command) => behind_command(alloc, command, rest),
@@ -40,7 +41,7 @@ fn behind_command(
     ensures legal { IfOk result IsLegal }
 {
     match words {
-        [] => Err(WordFault::missing("schema")),
+        [] => Err(WordFault::missing(Name::Schema)),
         [word, rest @ ..] => match read_schema(alloc, word.as_str()) {
             Ok(schema) => behind_schema(alloc, command, schema, rest),
             Err(SchemaFault::Memory) => Err(WordFault::Memory),

@@ -1,7 +1,7 @@
-use Rattle.std.proofs.Common.{◌≡◌, ◌∙◌, ℕ, List, ◌<◌, ◌≤◌, sym, ap, subst, length, All, arith}
+use Rattle.std.proofs.Common.{◌∙◌, ℕ, List, ◌<◌, sym, ap, subst, length, All, arith}
 use Rattle.race_play.specs.Filled.{filled}
 use Rattle.race_play.proofs.Filling.{filled_long}
-use Rattle.race_play.proofs.Orders.{all_at, long_at, one_more, stands_of, writer_below}
+use Rattle.race_play.proofs.Orders.{all_at, long_at, one_more, stands_of}
 use Rattle.race_play.proofs.order.printed.Goals as goal
 
 pub fill-requires-clause-long : goal.fill-requires-clause-long

@@ -1,5 +1,5 @@
-use Rattle.std.proofs.Common.{◌<◌, arith}
-use Rattle.race_play.proofs.Writing.{grows_trans, turns_room, wrote_none}
+use Rattle.std.proofs.Common.{arith}
+use Rattle.race_play.proofs.Writing.{grows_trans, turns_room}
 use Rattle.race_play.proofs.write.write_all.Goals as goal
 
 pub write_turn-requires-clause-room : goal.write_turn-requires-clause-room

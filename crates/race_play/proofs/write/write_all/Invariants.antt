@@ -1,4 +1,3 @@
-use Rattle.std.proofs.Common.{◌≡◌, ◌≤◌}
 use Rattle.waldo_table.specs.Tables.{Grows, IsOf}
 use Rattle.race_play.specs.Turns.{turns}
 use Rattle.race_play.specs.Writes.{Wrote}

@@ -2,7 +2,7 @@ use Rattle.std.proofs.Common.{◌≡◌, ◌∙◌, ℕ, ◌<◌, List, sym, ap,
 use Rattle.race_play.specs.Jobs.{AreNumbered}
 use Rattle.race_play.specs.declared.jobs.WriterJob.{WriterJob}
 use Rattle.race_play.proofs.Splitting.{numbered_same, whole_slice}
-use Rattle.race_play.proofs.race.run_all.Goals as goal
+use Rattle.race_play.proofs.together.run_all.Goals as goal
 
 pub returns-clause-numbered : goal.returns-clause-numbered
 returns-clause-numbered g c n =

@@ -1,9 +1,8 @@
-use Rattle.std.proofs.Common.{◌≡◌, ◌∙◌, ◌+◌, ◌≤◌, ℕ, ap, sym, length, arith}
+use Rattle.std.proofs.Common.{◌≡◌, ℕ, ap, sym, length, arith}
 use Rattle.waldo_table.specs.Tables.{PassView}
-use Rattle.race_play.specs.Turns.{turns}
 use Rattle.race_play.proofs.Splitting.{fresh_given, fresh_kept, long_push, numbered_push, ready_push}
 use Rattle.race_play.proofs.Sums.{rooms_all, rooms_more, rooms_within, tsum}
-use Rattle.race_play.proofs.race.split_jobs.Goals as goal
+use Rattle.race_play.proofs.together.split_jobs.Goals as goal
 
 pub split_pass-mine-requires-clause-room : goal.split_pass-mine-requires-clause-room
 split_pass-mine-requires-clause-room c =

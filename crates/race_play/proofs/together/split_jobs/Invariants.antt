@@ -2,7 +2,7 @@ use Rattle.std.proofs.Common.{◌≡◌, ◌+◌, ℕ, length, All}
 use Rattle.waldo_table.specs.Tables.{IsOf}
 use Rattle.race_play.specs.Jobs.{AreNumbered, IsFresh, IsReady}
 use Rattle.race_play.proofs.Sums.{tsum}
-use Rattle.race_play.proofs.race.split_jobs.Given as goal
+use Rattle.race_play.proofs.together.split_jobs.Given as goal
 
 abbrev pub invariant-loop-number : goal.invariant-loop-number
 invariant-loop-number l = record {

@@ -1,0 +1,69 @@
+-- Askers at once.
+use Rattle.std.proofs.Common.{◌≡◌, ◌∙◌, sym, ap, subst, ℕ, suc, ◌-◌, List, [], ◌∷◌, ◌++◌, arith}
+use Rattle.std.specs.Prelude.{IfOk, Result, Ok, Err, Option}
+use mathlib.Core.List.{IsPrefix}
+use Rattle.list_facts.proofs.Prefixes.{prefix_self}
+use Rattle.prg_chacha.specs.declared.seed.Seed.{Seed}
+use Rattle.query_plan.specs.declared.query.Query.{Query}
+use Rattle.report_lines.specs.declared.lines.Line.{Line}
+use Rattle.ring128.specs.declared.memory.Memory.{Memory}
+use Rattle.table_schema.specs.declared.rows.Row.{Row}
+use Rattle.table_schema.specs.declared.widths.Widths.{Widths}
+use Rattle.ticket_place.specs.Sights.{Seen}
+use Rattle.wire_line.specs.declared.message.Message.{Message}
+use Rattle.waldo_table.specs.Tables.{Grows, IsOf, PassView, TableView, fresh_pass, gathered}
+use Rattle.race_play.specs.Askers.{AreAsked}
+use Rattle.race_play.specs.Asking.{AsksAll, AsksOne}
+use Rattle.race_play.specs.Questions.{Gave, Question}
+use Rattle.race_play.specs.declared.setting.Crew.{Crew}
+use Rattle.race_play.proofs.Answering.{answers_more}
+use Rattle.race_play.proofs.Writing.{grows_trans}
+
+-- ---- what was asked stays so as the order grows
+
+pub gave_more : (w : Widths) (order more : List (Row × Seed)) (low : ℕ) (xs : List Question) (ms : List Message) (said : List Line) → IsPrefix order more → Gave w order low xs ms said → Gave w more low xs ms said
+gave_more w order more low xs ms said p g = record { told = g.told; high = g.high; answers = answers_more w order more p low xs g.told said g.high g.answers; messages = g.messages }
+
+module _ (w : Widths) (queries : List Query) (master : Seed) (rounds : ℕ) (order more : List (Row × Seed)) (p : IsPrefix order more) where
+  pub asked_more : (asker : ℕ) (sent : List (List Message)) (said : List Line) → AreAsked w queries master rounds order asker sent said → AreAsked w queries master rounds more asker sent said
+  asked_more asker [] said h = h
+  asked_more asker (ms ∷ sent) said h = (h.0, h.1, h.2, gave_more w order more 0 _ ms h.0 p h.3, asked_more (suc asker) sent h.1 h.4)
+
+-- ---- one asker beside those behind it
+
+pub kept_grows : (p q : PassView) (n : ℕ) → q ≡ record p { sight = record p.sight { room = n } } → Grows p q
+kept_grows p q n is = subst (λ (x : PassView). Grows p x) (sym is) (record { order = prefix_self _; zero = prefix_self _; one = prefix_self _; two = prefix_self _ })
+
+module _ {S : Type 0} (told : S → Option (List Message)) (alterations : S → ℕ) (passes : S → List Message → S → Type 0) (t : TableView) (queries : List Query) (master : Seed) (crew : Crew) (asker : ℕ) where
+  pub asks_both : (p mine kept mine' q q' : PassView) (v w : S) (vs ws : List S) (next : ℕ) (first others result : Result (List Line) Memory)
+      → AsksOne told alterations passes t queries master crew asker mine mine' v w first
+      → AsksAll told alterations passes t queries master crew next kept q vs ws others
+      → next ≡ suc asker → mine ≡ fresh_pass p 0 → kept ≡ record p { sight = record p.sight { room = p.sight.room - 0 } }
+      → IsOf t q' → Grows q q' → Grows mine' q' → q' ≡ gathered q mine'
+      → IfOk result (λ said. (own : List Line) × (more : List Line) × (first ≡ Ok own) × (others ≡ Ok more) × (said ≡ own ++ more))
+      → AsksAll told alterations passes t queries master crew asker p q' (v ∷ vs) (w ∷ ws) result
+  asks_both p mine kept mine' q q' v w vs ws next first others result one all is split left of grows joins same joined = record {
+    of = of;
+    grows = grows_trans p kept q' (kept_grows p kept (p.sight.room - 0) left) (grows_trans kept q q' all.grows grows);
+    own = ap (λ (x : PassView). x.sight.own) same ∙ ap (λ (l : List ℕ). l ++ mine'.sight.own) all.own ∙ ap (λ (s : Seen). s.own) one.own ∙ ap (λ (x : PassView). x.sight.own) split;
+    room =
+        let a = ap (λ (x : PassView). x.sight.room) same in
+        let b = ap (λ (x : PassView). x.sight.room) left in
+        let c = all.room in omega arith;
+    asked = (one.asked.0 ∷ all.asked.0, (one.asked.1, all.asked.1), said result joined, let n = all.asked.3 in omega arith);
+  }
+    where
+      said : (r : Result (List Line) Memory) → IfOk r (λ s. (own : List Line) × (more : List Line) × (first ≡ Ok own) × (others ≡ Ok more) × (s ≡ own ++ more))
+          → IfOk r (AreAsked t.widths queries master crew.rounds q'.sight.order asker (one.asked.0 ∷ all.asked.0))
+      said (Err e) j = tt
+      said (Ok s) j = (
+        j.0,
+        j.1,
+        j.4,
+        gave_more t.widths mine'.sight.order q'.sight.order 0 _ one.asked.0 j.0 joins.order (at_ok first j.0 (Gave t.widths mine'.sight.order 0 _ one.asked.0) j.2 one.asked.2),
+        subst (λ (n : ℕ). AreAsked t.widths queries master crew.rounds q'.sight.order n all.asked.0 j.1) is
+            (asked_more t.widths queries master crew.rounds q.sight.order q'.sight.order grows.order next all.asked.0 j.1 (at_ok others j.1 (AreAsked t.widths queries master crew.rounds q.sight.order next all.asked.0) j.3 all.asked.2)),
+      )
+        where
+          at_ok : (r : Result (List Line) Memory) (x : List Line) (P : List Line → Type 0) → r ≡ Ok x → IfOk r P → P x
+          at_ok r x P e h = subst (λ (y : Result (List Line) Memory). IfOk y P) e h

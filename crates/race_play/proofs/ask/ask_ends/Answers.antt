@@ -1,0 +1,67 @@
+use Rattle.std.proofs.Common.{◌≡◌, ◌∙◌, refl, ap, subst, List, suc, ◌+◌, arith}
+use Rattle.std.proofs.lemmas.Result.{IfOk-from_err}
+use Rattle.list_facts.proofs.Prefixes.{prefix_self}
+use Rattle.wire_line.specs.Carried.{went_both}
+use Rattle.ticket_place.specs.Sights.{Seen}
+use Rattle.race_play.specs.Questions.{Question}
+use Rattle.race_play.proofs.Answering.{SoFar, at_least, covered_first, ends_next, so_far_more, so_far_none}
+use Rattle.race_play.proofs.Writing.{grows_trans}
+use Rattle.race_play.proofs.ask.ask_ends.Goals as goal
+
+pub loop-q-init : goal.loop-q-init
+loop-q-init g c = record {
+  of = c.requires.pass;
+  grows = record { order = prefix_self _; zero = prefix_self _; one = prefix_self _; two = prefix_self _ };
+  own = refl;
+  covered = covered_first c.args.rows c.args.pass.now c.requires.all c.requires.floor;
+  asked = rw c.new-said.ensures (so_far_none g.W.Wire.told g.W.Wire.alterations g.W.Wire.passes (g.met.W.Wire.none_passes) (g.met.W.Wire.both_pass) c.args.table.now.widths c.args.rows c.args.pass.now c.args.wire.now (λ q grows agrees. at_least c.args.table.now.widths c.args.rows c.args.pass.now q c.requires.all grows agrees));
+}
+
+pub returns-in_err-line : goal.returns-in_err-line
+returns-in_err-line g c =
+    let i = c.loop-q.invariant in
+    let e = c.ask_line.ensures in
+    let h = e.asks in
+    record {
+      pass = e.pass;
+      grows = grows_trans _ _ _ i.grows e.grows;
+      own = e.own ∙ ap (λ (s : Seen). record s { order = c.ask_line.new.pass.sight.order }) i.own;
+      asked = (
+        _,
+        went_both g.W.Wire.told g.W.Wire.alterations g.W.Wire.passes (g.met.W.Wire.both_pass) _ _ _ _ h.0 i.asked.went h.2,
+        IfOk-from_err c.from_residual.result _ c.from_residual.ensures.0,
+      );
+    }
+
+pub returns-in_err-push : goal.returns-in_err-push
+returns-in_err-push g c =
+    let i = c.loop-q.invariant in
+    let e = c.ask_line.ensures in
+    let h = e.asks in
+    record {
+      pass = e.pass;
+      grows = grows_trans _ _ _ i.grows e.grows;
+      own = e.own ∙ ap (λ (s : Seen). record s { order = c.ask_line.new.pass.sight.order }) i.own;
+      asked = (
+        _,
+        went_both g.W.Wire.told g.W.Wire.alterations g.W.Wire.passes (g.met.W.Wire.both_pass) _ _ _ _ h.0 i.asked.went h.2,
+        IfOk-from_err c.from_residual-in_err-push.result _ c.from_residual-in_err-push.ensures.0,
+      );
+    }
+
+pub loop-q-preserved : goal.loop-q-preserved
+loop-q-preserved g c =
+    let i = c.loop-q.invariant in
+    let e = c.in_ok-line.ensures in
+    let h = e.asks in
+    let next : c.loop-q.q + 1 ≡ suc c.loop-q.q = omega arith in
+    record {
+      of = e.pass;
+      grows = grows_trans _ _ _ i.grows e.grows;
+      own = e.own ∙ ap (λ (s : Seen). record s { order = c.ask_line.new.pass.sight.order }) i.own;
+      covered = e.covered;
+      asked = subst (λ (xs : List Question). SoFar g.W.Wire.told g.W.Wire.alterations g.W.Wire.passes c.args.table.now.widths c.args.rows c.ask_line.new.pass xs c.push.new.self c.args.wire.now c.ask_line.new.wire)
+          (ends_next c.args.queries.now c.args.master.now c.loop-q.q (c.loop-q.q + 1) _ c.derive-seed.result c.loop-q-test.true next c.derive-seed.ensures)
+          (so_far_more g.W.Wire.told g.W.Wire.alterations g.W.Wire.passes (g.met.W.Wire.none_passes) (g.met.W.Wire.both_pass) c.args.table.now.widths c.args.rows c.loop-q.pass c.ask_line.new.pass _ c.loop-q.said c.push.new.self
+          c.args.wire.now c.loop-q.wire c.ask_line.new.wire _ _ _ h.0 h.1 c.in_ok-line.line i.asked e.grows h.3 h.2 c.in_ok-push.ensures);
+    }

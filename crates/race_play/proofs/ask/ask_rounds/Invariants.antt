@@ -1,0 +1,14 @@
+use Rattle.std.proofs.Common.{◌≡◌}
+use Rattle.waldo_table.specs.Tables.{Grows, IsCovered, IsOf}
+use Rattle.race_play.specs.Questions.{rounds_of}
+use Rattle.race_play.proofs.Answering.{SoFar}
+use Rattle.race_play.proofs.ask.ask_rounds.Given as goal
+
+abbrev pub invariant-loop-round : goal.invariant-loop-round
+invariant-loop-round g l = record {
+  of : IsOf l.table l.pass;
+  grows : Grows l.fn.pass l.pass;
+  own : l.pass.sight ≡ record l.fn.pass.sight { order = l.pass.sight.order };
+  covered : IsCovered l.pass;
+  asked : SoFar g.W.Wire.told g.W.Wire.alterations g.W.Wire.passes l.table.widths 0 l.pass (rounds_of l.queries l.master l.asker l.round) l.said l.fn.wire l.wire;
+}

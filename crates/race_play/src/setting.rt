@@ -1,0 +1,25 @@
+//! What a race is run over.
+use prg_chacha::Seed;
+use query_plan::Query;
+use table_schema::{Row, Widths};
+
+/// How many writers, askers and rounds there are, each 1 to 16; and among how many workers, 1 to 16, each server's rows are shared
+/// while a query is answered.
+#[derive(Clone, Copy)]
+pub struct Crew {
+    pub writers: u8,
+    pub askers: u8,
+    pub rounds: u8,
+    pub workers: u8,
+}
+
+/// What a race is run over: rows of these widths; 1 to 16 queries that are legal over them; the master seed, from which the seeds of
+/// rows and queries are derived; and by whom.
+#[derive(Clone, Copy)]
+pub struct Race<'a> {
+    pub widths: Widths,
+    pub rows: &'a [Row],
+    pub queries: &'a [Query],
+    pub master: Seed,
+    pub crew: Crew,
+}
