@@ -14,10 +14,16 @@
 //! ```
 #![tactic(auto)]
 
+mod finish;
 mod made;
+mod race;
+mod refusals;
 mod reply;
-mod run;
+mod still;
 mod task;
+mod top;
 mod words;
 
-pub use run::run_still;
+pub use race_play::{Gate, OpenGate, Point};
+pub use still::run_still;
+pub use top::run;
