@@ -1,5 +1,5 @@
 -- What a race does to its source, its wires and its sink, and with what status it ends.
-use Rattle.std.specs.Prelude.{◌≡◌, ℕ, Bool, false, bytes_eq, codes, if◌then◌else◌, Result, Ok, Err, List, [], ◌∷◌}
+use Rattle.std.specs.Prelude.{◌≡◌, ⊤, ℕ, Bool, false, bytes_eq, codes, if◌then◌else◌, Result, Ok, Err, List, [], ◌∷◌}
 use Rattle.std.specs.List.{list_any}
 use Rattle.query_plan.specs.Query.{AreWidthsOf}
 use Rattle.race_play.specs.Reports.{Reports, is_altered}
@@ -31,6 +31,15 @@ begin_race (word ∷ words) = bytes_eq word (codes "race")
 -- the command that the words say where `race` is built, or why they are refused
 abbrev pub command_at : List (List ℕ) → Result Command WordFault
 command_at words = if begin_race words then command_of words else command_in words
+
+-- a command that is a race
+abbrev pub IsRacing : Command → Type 0
+IsRacing (commands.Race common writers askers rounds) = ⊤
+IsRacing (commands.Ask common) = ⊥
+IsRacing (commands.Replay common schedule) = ⊥
+IsRacing (commands.Make common number count) = ⊥
+IsRacing (commands.Trace common) = ⊥
+IsRacing (commands.Tamper common shifts) = ⊥
 
 -- who takes part in a race, as its words say
 abbrev pub crew_of : Common → ℕ → ℕ → ℕ → Crew

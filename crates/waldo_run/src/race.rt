@@ -1,15 +1,15 @@
 //! A run of `race`, from bytes in to bytes out.
-ghost use Rattle.std.specs.Prelude.{◌≡◌, ◌≢◌, ◌≤◌, ◌<◌, ◌⊎◌, true, All, List, map, string_bytes, Err, IfOk, IfSome, IsErr, length};
+ghost use Rattle.std.specs.Prelude.{◌≡◌, ◌≢◌, ◌≤◌, ◌<◌, ◌⊎◌, true, All, List, if◌then◌else◌, map, string_bytes, Ok, IfOk, IfSome, IsErr, length};
 ghost use Rattle.fault_count.specs.Causes.{Rose};
 ghost use Rattle.query_plan.specs.Query.{AreWidthsOf};
 ghost use Rattle.race_play.specs.Askers.{WentEach};
 ghost use Rattle.table_schema.specs.Widths.{Holds};
-ghost use Rattle.waldo_words.specs.Legal.{IsRace};
+ghost use Rattle.waldo_words.specs.Legal.{IsLegal, IsRace};
 ghost use Rattle.waldo_words.specs.Words.{command_of};
 ghost use Rattle.waldo_words.specs.declared.command.Command.TheVariants as commands;
 ghost use Rattle.wire_line.specs.Lists.{SomeRose};
 ghost use Rattle.wire_line.specs.declared.message.Message.{Message};
-ghost use Rattle.waldo_run.specs.Races.{RaceReplies, RacedIn, RacedOver, Races, begin_race, crew_of};
+ghost use Rattle.waldo_run.specs.Races.{IsRacing, RaceReplies, RacedIn, RacedOver, Races, begin_race, crew_of};
 ghost use Rattle.waldo_run.specs.Run.{IsUnchanged, ReadsNothing, Refuses, change};
 ghost use Rattle.waldo_run.specs.Tasks.{rows_in};
 
@@ -26,6 +26,13 @@ use std::thread::Threads;
 use table_schema::{Row, Widths};
 use waldo_words::{Command, Common, read_words};
 use wire_line::Wire;
+
+// The reply of a race that has come to an end.
+fn reply_of(ran: Ran) -> Reply
+    ensures { result ≡ record { status = if ran.altered then 7 else 0; report = ran.report } }
+{
+    Reply::new(if ran.altered { 7 } else { 0 }, ran.report)
+}
 
 // The reply of a race over its rows.
 fn race_rows<R: Threads + Wait + Sync, W: Wire + Send, G: Gate + Sync>(
@@ -56,8 +63,8 @@ fn race_rows<R: Threads + Wait + Sync, W: Wire + Send, G: Gate + Sync>(
         master: common.seed,
         crew,
     };
-    let Ran { report, altered } = race(rt, alloc, &setting, gate, wires)?;
-    Ok(Reply::new(if altered { 7 } else { 0 }, report))
+    let ran = race(rt, alloc, &setting, gate, wires)?;
+    Ok(reply_of(ran))
 }
 
 // The reply of a race to all bytes of its input.
@@ -111,6 +118,47 @@ fn race_input<R: Threads + Wait + Sync, S: Source, W: Wire + Send, G: Gate + Syn
     }
 }
 
+// The reply of a race.
+fn race_command<R: Threads + Wait + Sync, S: Source, W: Wire + Send, G: Gate + Sync>(
+    rt: &R,
+    alloc: Global,
+    command: &Command,
+    source: &mut S,
+    gate: &G,
+    wires: &mut Vec<W>,
+) -> Result<Reply, Memory>
+    requires legal { IsLegal command.now }
+    requires racing { IsRacing command.now }
+    requires wires { length wires.old.items ≡ 16 }
+    ensures wires { length wires.new.items ≡ 16 }
+    ensures raced { IfOk result (RaceReplies (Ok command.now) (change S.left S.fault_count source.old source.new)
+        (λ sent. WentEach W.told W.alterations W.passes sent wires.old.items wires.new.items)) }
+    ensures unread { ReadsNothing (Ok command.now) → IsUnchanged (change S.left S.fault_count source.old source.new) }
+    ensures accepted { ¬ SomeRose W.alterations wires.old.items wires.new.items → IfOk result (λ reply. reply.status ≢ 7) }
+{
+    match command {
+        Command::Race {
+            common,
+            writers,
+            askers,
+            rounds,
+        } => {
+            let crew = Crew {
+                writers: *writers,
+                askers: *askers,
+                rounds: *rounds,
+                workers: common.workers,
+            };
+            race_input(rt, alloc, common, crew, source, gate, wires)
+        }
+        Command::Ask(_)
+        | Command::Replay { .. }
+        | Command::Make { .. }
+        | Command::Trace(_)
+        | Command::Tamper { .. } => unreachable!(),
+    }
+}
+
 // The reply of a race to its words.
 fn race_words<R: Threads + Wait + Sync, S: Source, W: Wire + Send, G: Gate + Sync>(
     rt: &R,
@@ -125,20 +173,11 @@ fn race_words<R: Threads + Wait + Sync, S: Source, W: Wire + Send, G: Gate + Syn
     ensures wires { length wires.new.items ≡ 16 }
     ensures raced { IfOk result (RaceReplies (command_of (map string_bytes words.now)) (change S.left S.fault_count source.old source.new)
         (λ sent. WentEach W.told W.alterations W.passes sent wires.old.items wires.new.items)) }
-    ensures unread { IsErr (command_of (map string_bytes words.now)) → IsUnchanged (change S.left S.fault_count source.old source.new) }
+    ensures unread { ReadsNothing (command_of (map string_bytes words.now)) → IsUnchanged (change S.left S.fault_count source.old source.new) }
     ensures accepted { ¬ SomeRose W.alterations wires.old.items wires.new.items → IfOk result (λ reply. reply.status ≢ 7) }
 {
     match read_words(alloc, words) {
-        Ok(Command::Race { common, writers, askers, rounds }) => {
-            let crew = Crew {
-                writers,
-                askers,
-                rounds,
-                workers: common.workers,
-            };
-            race_input(rt, alloc, &common, crew, source, gate, wires)
-        }
-        Ok(_) => unreachable!(),
+        Ok(command) => race_command(rt, alloc, &command, source, gate, wires),
         Err(fault) => refused_words(alloc, fault),
     }
 }
