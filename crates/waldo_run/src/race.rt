@@ -1,5 +1,5 @@
 //! A run of `race`, from bytes in to bytes out.
-ghost use Rattle.std.specs.Prelude.{◌≡◌, ◌≢◌, ◌≤◌, ◌<◌, ◌⊎◌, true, All, List, if◌then◌else◌, map, string_bytes, Ok, IfOk, IfSome, IsErr, length};
+ghost use Rattle.std.specs.Prelude.{◌≡◌, ◌≢◌, ◌≤◌, true, All, List, if◌then◌else◌, map, string_bytes, Ok, IfOk, IfSome, IsErr, length};
 ghost use Rattle.fault_count.specs.Causes.{Rose};
 ghost use Rattle.query_plan.specs.Query.{AreWidthsOf};
 ghost use Rattle.race_play.specs.Askers.{WentEach};
@@ -184,7 +184,13 @@ fn race_words<R: Threads + Wait + Sync, S: Source, W: Wire + Send, G: Gate + Syn
 
 /// Runs `race` on these words, which begin with it, this source, this sink and 16 wires. Asker a asks over wire a, and the queries of
 /// the end go over the first one. Waits for the threads.
-pub(crate) fn run_race<R: Threads + Wait + Sync, S: Source, K: Sink, W: Wire + Send, G: Gate + Sync>(
+pub(crate) fn run_race<
+    R: Threads + Wait + Sync,
+    S: Source,
+    K: Sink,
+    W: Wire + Send,
+    G: Gate + Sync,
+>(
     rt: &R,
     alloc: Global,
     words: &[String],

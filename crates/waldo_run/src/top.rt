@@ -1,5 +1,5 @@
 //! The top call: `race`, and every other command.
-ghost use Rattle.std.specs.Prelude.{◌≡◌, ◌≢◌, ◌⊎◌, ℕ, true, false, map, string_bytes, IfSome, IsErr, length};
+ghost use Rattle.std.specs.Prelude.{◌≡◌, ◌≢◌, ◌⊎◌, true, false, map, string_bytes, IfSome, IsErr, length};
 ghost use Rattle.fault_count.specs.Causes.{Rose};
 ghost use Rattle.race_play.specs.Askers.{WentEach};
 ghost use Rattle.schedule_play.specs.Wires.{WiresWent};
