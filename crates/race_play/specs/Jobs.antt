@@ -30,7 +30,7 @@ pub record Ended (rows : List Row) (master : Seed) (writers w : ℕ) (places : L
 
 pub record IsDone (t : TableView) (rows : List Row) (master : Seed) (writers : ℕ) (j : WriterJob) : Type 0 where
   pub of : IsOf t j.pass
-  pub ended : IfSome j.written (λ (w : Written). Ended rows master writers j.number w.places.items w.line j.pass)
+  pub ended : IfSome j.written (λ (w : Written). Ended rows master writers j.number w.places w.line j.pass)
 
 -- the jobs have these numbers, from one on
 abbrev pub AreNumbered : ℕ → List WriterJob → Type 0

@@ -54,7 +54,7 @@ fn take_in(
     let Some(written) = written else {
         return Err(Memory);
     };
-    gathered.places.push(written.places)?;
+    gathered.places.push(written.places.into_vec())?;
     gathered.lines.push(written.line)?;
     Ok(())
 }

@@ -9,6 +9,7 @@ mod jobs;
 pub mod laws;
 mod lines;
 mod order;
+mod places;
 mod play;
 mod report;
 mod round;
@@ -18,6 +19,7 @@ mod together;
 mod write;
 
 pub use gate::{Gate, OpenGate, Point};
+pub use places::Places;
 pub use play::race;
 pub use report::Ran;
 pub use round::ask_round;

@@ -9,6 +9,7 @@ ghost use Rattle.race_play.specs.Writes.{IsBack, Wrote, Wrote_back};
 
 use crate::gate::{Gate, Point};
 use crate::lines::line_of_fault;
+use crate::places::Places;
 use prg_chacha::{Seed, derive};
 use report_lines::Line;
 use ring128::Memory;
@@ -20,7 +21,7 @@ use waldo_table::{Pass, Table, finish, prepare};
 /// Where a writer's rows are, in order, and the line of its agreement.
 #[derive(Drop)]
 pub struct Written {
-    pub places: Vec<u64>,
+    pub places: Places,
     pub line: Line,
 }
 
@@ -180,9 +181,12 @@ pub fn write_rows<R: Wait, G: Gate>(
     requires room { length (turns writer writers (length rows.now)) ≤ pass.old.sight.room }
     ensures pass { IsOf table.now pass.new }
     ensures grows { Grows pass.old pass.new }
-    ensures wrote { IfOk result (λ w. Wrote_back rows.now master.now writer (turns writer writers (length rows.now)) pass.old w.places.items w.line pass.new) }
+    ensures wrote { IfOk result (λ w. Wrote_back rows.now master.now writer (turns writer writers (length rows.now)) pass.old w.places w.line pass.new) }
 {
     let places = write_all(rt, alloc, table, pass, rows, writer, writers, master, gate)?;
     let line = agree_back(rt, alloc, table, pass, writer, gate)?;
-    Ok(Written { places, line })
+    Ok(Written {
+        places: Places::from_vec(places),
+        line,
+    })
 }

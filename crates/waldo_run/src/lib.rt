@@ -27,6 +27,6 @@ mod task;
 mod top;
 mod words;
 
-pub use race_play::{Gate, OpenGate, Point};
+pub use race_play::{Gate, OpenGate, Places, Point, Written, ask_round, write_rows};
 pub use still::run_still;
 pub use top::run;

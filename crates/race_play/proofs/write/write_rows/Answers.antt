@@ -4,4 +4,4 @@ use Rattle.race_play.proofs.write.write_rows.Goals as goal
 pub returns-clause-wrote : goal.returns-clause-wrote
 returns-clause-wrote g c =
     let a = c.in_ok-line.ensures in
-    wrote_back _ _ _ _ _ _ _ _ _ c.in_ok-places.ensures.wrote a.grows a.own a.room a.back
+    rw c.from_vec.ensures (wrote_back _ _ _ _ _ _ _ _ _ c.in_ok-places.ensures.wrote a.grows a.own a.room a.back)
