@@ -1,11 +1,12 @@
-ghost use Rattle.std.specs.Prelude.{◌≡◌, ◌<◌, ◌+◌, List, Some, map, IfOk};
+ghost use Rattle.std.specs.Prelude.{◌≡◌, ◌<◌, ◌+◌, List, [], ◌∷◌, Some, map, IfOk};
 ghost use Rattle.wire_line.specs.declared.message.Message.{Message};
 ghost use Rattle.wire_line.specs.Messages.{Went};
-ghost use Rattle.transcript.specs.Setup.{count_of};
+ghost use Rattle.transcript.specs.Setup.{column_of, count_of};
 ghost use Rattle.server_rounds.specs.Groups.{by_server, AreLong, AreReshared, IsGroup};
 ghost use Rattle.server_rounds.specs.Plans.{views_of};
 ghost use Rattle.server_rounds.specs.Rounds.{IsOpened, bits_of, openings_of};
 ghost use Rattle.server_rounds.specs.Shelves.{AreShelves, pieces_of};
+ghost use Rattle.server_rounds.specs.Visits.{AllVisited, opened_columns};
 
 use crate::bits::Bits;
 use crate::held::Held;
@@ -52,6 +53,7 @@ impl Product {
         ensures zero { map S.held shelves.new.zero.items ≡ map S.held shelves.old.zero.items }
         ensures one { map S.held shelves.new.one.items ≡ map S.held shelves.old.one.items }
         ensures two { map S.held shelves.new.two.items ≡ map S.held shelves.old.two.items }
+        ensures visits { AllVisited S.held S.visited (column_of self.plan (self.j + 1) ∷ []) shelves.old shelves.new result }
         ensures plan { IfOk result (λ b. b.plan ≡ self.plan) }
         ensures run { IfOk result (λ b. b.run ≡ self.run) }
         ensures j { IfOk result (λ b. b.j ≡ self.j + 1) }
@@ -109,6 +111,7 @@ impl Product {
         ensures zero { map S.held shelves.new.zero.items ≡ map S.held shelves.old.zero.items }
         ensures one { map S.held shelves.new.one.items ≡ map S.held shelves.old.one.items }
         ensures two { map S.held shelves.new.two.items ≡ map S.held shelves.old.two.items }
+        ensures visits { AllVisited S.held S.visited (opened_columns self.plan.shape.aggregate self.plan.widths.columns) shelves.old shelves.new result }
         ensures messages { let pieces = by_server (pieces_of (map S.held shelves.old.zero.items))
             (pieces_of (map S.held shelves.old.one.items)) (pieces_of (map S.held shelves.old.two.items)) in
             (ms : List Message) × Went W.told W.alterations W.passes wire.old ms wire.new

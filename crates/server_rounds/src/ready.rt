@@ -1,12 +1,14 @@
-ghost use Rattle.std.specs.Prelude.{◌≡◌, ◌*◌, ◌<◌, ◌≤◌, List, None, map, length, IfOk};
+ghost use Rattle.std.specs.Prelude.{◌≡◌, ◌*◌, ◌<◌, ◌≤◌, List, [], ◌∷◌, None, map, length, IfOk};
 ghost use Rattle.onehot_column.specs.Code.{width_of};
 ghost use Rattle.wire_line.specs.declared.message.Message.{Message};
 ghost use Rattle.wire_line.specs.Messages.{Went};
+ghost use Rattle.transcript.specs.Setup.{column_of};
 ghost use Rattle.server_rounds.specs.Groups.{by_server, AreReshared, IsGroup};
 ghost use Rattle.server_rounds.specs.Plans.{AreZeros, HaveTables, read_for, sizes_for, views_of, words_for};
 ghost use Rattle.server_rounds.specs.Rounds.{bits_of};
 ghost use Rattle.server_rounds.specs.Runs.{HaveRead};
 ghost use Rattle.server_rounds.specs.Shelves.{AreShelves, pieces_of};
+ghost use Rattle.server_rounds.specs.Visits.{AllVisited, AreVisited};
 
 use crate::bits::Bits;
 use crate::carry::{Trio, carry_three};
@@ -127,6 +129,7 @@ impl Ready {
         ensures first { IfOk result (λ p. p.first ≡ (pieces_of (map S.held shelves.old.items)).first column) }
         ensures second { IfOk result (λ p. p.second ≡ (pieces_of (map S.held shelves.old.items)).second column) }
         ensures long { IfOk result (λ p. length p.first ≡ self.now.plan.rows * width_of self.now.plan.widths column) }
+        ensures visits { AreVisited S.held S.visited (column ∷ []) shelves.old.items shelves.new.items result }
     {
         let cells = read_cells(alloc, &self.plan, shelves, column)?;
         Ok(cells)
@@ -149,6 +152,7 @@ impl Ready {
         ensures zero { map S.held shelves.new.zero.items ≡ map S.held shelves.old.zero.items }
         ensures one { map S.held shelves.new.one.items ≡ map S.held shelves.old.one.items }
         ensures two { map S.held shelves.new.two.items ≡ map S.held shelves.old.two.items }
+        ensures visits { AllVisited S.held S.visited (column_of self.now.plan 0 ∷ []) shelves.old shelves.new result }
         ensures plan { IfOk result (λ b. b.plan ≡ self.now.plan) }
         ensures run { IfOk result (λ b. b.run ≡ run) }
         ensures j { IfOk result (λ b. b.j ≡ 0) }
