@@ -1,10 +1,12 @@
 -- Visits of a server's shelves.
-use Rattle.std.proofs.Common.{◌≡◌, ◌∙◌, refl, sym, ap, subst, ℕ, List, [], ◌∷◌, ◌++◌, length, map, take, drop, get_or, append-nil, append_assoc, take-append-drop, arith, Result, Ok, Err}
+use Rattle.std.proofs.Common.{◌≡◌, ◌∙◌, refl, sym, ap, subst, ℕ, List, [], ◌∷◌, ◌++◌, length, map, take, drop, get_or, ◌+◌, ◌-◌, ◌≤◌, append-nil, append_assoc, take-append-drop, arith, Result, Ok, Err}
 use Rattle.std.specs.List.{AllZip}
 use Rattle.std.specs.Result.{IsErr}
 use Rattle.std.proofs.Math.Seq.{take-append_seam}
 use Rattle.std.proofs.lemmas.Grind.{flat_map-append}
 use Rattle.std.proofs.lemmas.Slice.Zip.{AllZip-long}
+use Rattle.list_facts.specs.Listed.{listed}
+use Rattle.list_facts.proofs.Listed.{listed-append, listed_more}
 use Rattle.ring128.specs.declared.memory.Memory.{Memory}
 use Rattle.scan_chunks.specs.Shelf.{Held}
 use Rattle.scan_chunks.specs.Scan.{visits_of, VisitsPart}
@@ -189,3 +191,19 @@ all_stopped held visited columns old new r0 r1 r2 q e z0 z1 z2 = record {
   one = visited_stopped held visited columns old.one.items new.one.items q e (visited_begun held visited columns old.one.items new.one.items r1 z1);
   two = visited_stopped held visited columns old.two.items new.two.items q e (visited_begun held visited columns old.two.items new.two.items r2 z2);
 }
+
+-- columns listed by place, visited one after another: a call at the next one, and a call that stops before the last one
+pub all_more : {S T U : Type 0} (held : S → Held) (visited : S → List Visit) (m : ℕ) (f : ℕ → ℕ) (old mid new : Servers S) (x : T) (q : Result U Memory)
+    → map held mid.zero.items ≡ map held old.zero.items → map held mid.one.items ≡ map held old.one.items → map held mid.two.items ≡ map held old.two.items
+    → AllVisited {S = S} {T = T} held visited (listed m f) old mid (Ok x) → AllVisited held visited (f m ∷ []) mid new q
+    → AllVisited held visited (listed (m + 1) f) old new q
+all_more held visited m f old mid new x q same0 same1 same2 z w =
+    subst (λ (l : List ℕ). AllVisited held visited l old new q) (listed_more m f)
+    (all_then held visited (listed m f) (f m ∷ []) old mid new x q same0 same1 same2 z w)
+
+pub all_first : {S T U : Type 0} (held : S → Held) (visited : S → List Visit) (m n : ℕ) (f : ℕ → ℕ) (old new : Servers S) (r : Result T Memory) (q : Result U Memory)
+    → m ≤ n → IsErr q → AllVisited held visited (listed m f) old new r → AllVisited held visited (listed n f) old new q
+all_first held visited m n f old new r q h e z =
+    let whole : m + (n - m) ≡ n = omega arith in
+    subst (λ (l : List ℕ). AllVisited held visited l old new q) (sym (listed-append m (n - m) f) ∙ ap (λ (k : ℕ). listed k f) whole)
+    (all_cut held visited (listed m f) (listed (n - m) (λ i. f (m + i))) old new r q e z)
