@@ -1,8 +1,9 @@
 -- Visits of a server's shelves.
-use Rattle.std.proofs.Common.{◌≡◌, ◌∙◌, refl, sym, ap, subst, ℕ, List, [], ◌∷◌, ◌++◌, length, map, take, drop, get_or, ◌+◌, ◌-◌, ◌≤◌, append-nil, append_assoc, take-append-drop, arith, Result, Ok, Err}
+use Rattle.std.proofs.Common.{◌≡◌, ◌∙◌, refl, sym, ap, subst, ℕ, List, [], ◌∷◌, ◌++◌, length, map, take, drop, get_or, slice_set, ◌+◌, ◌-◌, ◌<◌, ◌≤◌, append-nil, append_assoc, take-append-drop, arith, Result, Ok, Err}
 use Rattle.std.specs.List.{AllZip}
 use Rattle.std.specs.Result.{IsErr}
 use Rattle.std.proofs.Math.Seq.{take-append_seam}
+use Rattle.std.proofs.lemmas.List.{length-map, take_all}
 use Rattle.std.proofs.lemmas.Grind.{flat_map-append}
 use Rattle.std.proofs.lemmas.Slice.Zip.{AllZip-long}
 use Rattle.list_facts.specs.Listed.{listed}
@@ -11,7 +12,7 @@ use Rattle.ring128.specs.declared.memory.Memory.{Memory}
 use Rattle.scan_chunks.specs.Shelf.{Held}
 use Rattle.scan_chunks.specs.Scan.{visits_of, VisitsPart}
 use Rattle.scan_chunks.specs.declared.visit.Visit.{Visit}
-use Rattle.scan_chunks.proofs.Shelves.{zip_weaker, part_none, part_whole}
+use Rattle.scan_chunks.proofs.Shelves.{AreScanned, IsScanned, item_left, part_none, part_whole, zip_more, zip_set, zip_weaker}
 use Rattle.server_rounds.specs.declared.servers.Servers.{Servers}
 use Rattle.server_rounds.specs.Visits.{visits_at, AllVisited, AreVisited}
 
@@ -172,6 +173,11 @@ all_then held visited xs ys old mid new x q same0 same1 same2 z w = record {
   two = visited_then held visited xs ys old.two.items mid.two.items new.two.items q same2 z.two w.two;
 }
 
+-- the result does not matter where there was memory
+pub all_done : {S T U : Type 0} (held : S → Held) (visited : S → List Visit) (columns : List ℕ) (old new : Servers S) (x : T) (y : U)
+    → AllVisited {S = S} {T = T} held visited columns old new (Ok x) → AllVisited {S = S} {T = U} held visited columns old new (Ok y)
+all_done held visited columns old new x y z = record { zero = z.zero; one = z.one; two = z.two }
+
 -- from what each server's call made
 pub all_made : {S T : Type 0} (held : S → Held) (visited : S → List Visit) (columns : List ℕ) (old new : Servers S) (r0 r1 r2 : Result (List ℕ) Memory) (x0 x1 x2 : List ℕ) (x : T)
     → r0 ≡ Ok x0 → r1 ≡ Ok x1 → r2 ≡ Ok x2 → AreVisited held visited columns old.zero.items new.zero.items r0
@@ -207,3 +213,38 @@ all_first held visited m n f old new r q h e z =
     let whole : m + (n - m) ≡ n = omega arith in
     subst (λ (l : List ℕ). AllVisited held visited l old new q) (sym (listed-append m (n - m) f) ∙ ap (λ (k : ℕ). listed k f) whole)
     (all_cut held visited (listed m f) (listed (n - m) (λ i. f (m + i))) old new r q e z)
+
+-- a column is read shelf by shelf: the shelves before place i were visited, and the others are as they were
+kept_long : {S : Type 0} (held : S → Held) (old now : List S) → map held now ≡ map held old → length now ≡ length old
+kept_long held old now e = omega (arith, length-map now held, length-map old held, ap length e)
+
+pub column_more : {S : Type 0} (held : S → Held) (visited : S → List Visit) (column : ℕ) (old now : List S) (i : ℕ) (d y : S) → i < length old → map held now ≡ map held old
+    → AreScanned held visited column (take i old) (take i now) → drop i now ≡ drop i old → d ≡ get_or now i d
+    → held y ≡ held d → visited y ≡ visited d ++ visits_of (held d) column → AreScanned held visited column (take (i + 1) old) (take (i + 1) (slice_set now i y))
+column_more held visited column old now i d y h same z rest is kept seen =
+    let at : d ≡ get_or old i d = is ∙ item_left old now i d rest in
+    let long = kept_long held old now same in
+    zip_more (IsScanned held visited column) old now i d y h (omega (arith, long)) z
+    (record { same = kept ∙ ap held at; seen = subst (λ (s : _). visited y ≡ visited s ++ visits_of (held s) column) at seen })
+
+pub column_stops : {S : Type 0} (held : S → Held) (visited : S → List Visit) (column : ℕ) (old now : List S) (i : ℕ) (d y : S) → i < length old → map held now ≡ map held old
+    → AreScanned held visited column (take i old) (take i now) → drop i now ≡ drop i old → d ≡ get_or now i d
+    → VisitsPart (visited d) (visited y) (visits_of (held d) column)
+    → AllZip (λ s t. VisitsPart (visited s) (visited t) (visits_at (held s) (column ∷ []))) old (slice_set now i y)
+column_stops held visited column old now i d y h same z rest is part =
+    let at : d ≡ get_or old i d = is ∙ item_left old now i d rest in
+    let long = kept_long held old now same in
+    column_begun held visited column old (slice_set now i y)
+    (zip_set (λ s t. VisitsPart (visited s) (visited t) (visits_of (held s) column)) (λ s. part_none (visited s) (visits_of (held s) column)) old now i d y h (omega (arith, long))
+    (zip_weaker (IsScanned held visited column) (λ s t. VisitsPart (visited s) (visited t) (visits_of (held s) column))
+    (λ s t p. part_whole (visited s) (visited t) (visits_of (held s) column) p.seen) (take i old) (take i now) z)
+    rest (subst (λ (s : _). VisitsPart (visited s) (visited y) (visits_of (held s) column)) at part))
+
+pub column_all : {S : Type 0} (held : S → Held) (visited : S → List Visit) (column : ℕ) (old now : List S) (i : ℕ) → length old ≤ i → map held now ≡ map held old
+    → AreScanned held visited column (take i old) (take i now) → AllZip (λ s t. visited t ≡ visited s ++ visits_at (held s) (column ∷ [])) old now
+column_all held visited column old now i h same z =
+    let long = kept_long held old now same in
+    let before : take i old ≡ old = take_all i old h in
+    let after : take i now ≡ now = take_all i now (omega (arith, long)) in
+    column_seen held visited column old now
+    (zip_weaker (IsScanned held visited column) (λ s t. visited t ≡ visited s ++ visits_of (held s) column) (λ s t p. p.seen) old now (rw (before, after) at z))

@@ -10,7 +10,7 @@ use Rattle.server_rounds.specs.Shelves.{AreShelves, pieces_of, rows_of}
 use Rattle.server_rounds.specs.Visits.{run_columns}
 use Rattle.server_rounds.proofs.Both.{after_keys, after_run, whole_pair}
 use Rattle.server_rounds.proofs.Together.{total-map, counted}
-use Rattle.server_rounds.proofs.Visiting.{all_cut, all_fails, all_none, all_then}
+use Rattle.server_rounds.proofs.Visiting.{all_cut, all_done, all_fails, all_none, all_then}
 use Rattle.server_rounds.proofs.run.both_runs.Goals as goal
 
 pub count_rows-rows-requires : goal.count_rows-rows-requires
@@ -159,4 +159,5 @@ returns-clause-visits g c =
     let z = sizes_for c.args.keys.now (rows_of (map held c.args.shelves.now.zero.items)) in
     let plan : c.in_ok-ready.ready.plan ≡ z = c.in_ok-ready.ensures.plan ∙ ap (sizes_for c.args.keys.now) rows in
     let t = c.in_ok-total.ensures in
-    all_then held g.S.Shelf.visited (run_columns z) (run_columns z) _ _ _ _ _ t.zero t.one t.two (rw plan at t.visits) (rw plan at c.in_ok-weighted.ensures.visits)
+    let both = all_then held g.S.Shelf.visited (run_columns z) (run_columns z) _ _ _ _ _ t.zero t.one t.two (rw plan at t.visits) (rw plan at c.in_ok-weighted.ensures.visits) in
+    all_done held g.S.Shelf.visited _ _ _ _ _ both

@@ -4,7 +4,7 @@ use Rattle.transcript.specs.Setup.{Sizes, count_of}
 use Rattle.transcript.specs.Formulas.{total_ending}
 use Rattle.server_rounds.specs.Visits.{opened_columns, predicate_columns}
 use Rattle.server_rounds.proofs.Runs.{opening_part, run_ends}
-use Rattle.server_rounds.proofs.Visiting.{all_cut, all_fails, all_then}
+use Rattle.server_rounds.proofs.Visiting.{all_cut, all_done, all_fails, all_then}
 use Rattle.server_rounds.proofs.run.run_once.Goals as goal
 
 pub returns-in_err-product-clause-messages : goal.returns-in_err-product-clause-messages
@@ -79,5 +79,6 @@ pub returns-clause-visits : goal.returns-clause-visits
 returns-clause-visits g c =
     let z = c.args.ready.now.plan in
     let p = c.in_ok-product.ensures in
-    all_then g.S.Shelf.held g.S.Shelf.visited (predicate_columns z) (opened_columns z.shape.aggregate z.widths.columns) _ _ _ _ _ p.zero p.one p.two p.visits
-    (rw p.plan at c.in_ok-opened.ensures.visits)
+    let both = all_then g.S.Shelf.held g.S.Shelf.visited (predicate_columns z) (opened_columns z.shape.aggregate z.widths.columns) _ _ _ _ _ p.zero p.one p.two p.visits
+        (rw p.plan at c.in_ok-opened.ensures.visits) in
+    all_done g.S.Shelf.held g.S.Shelf.visited _ _ _ _ _ both
