@@ -1,5 +1,5 @@
 -- Visits of a server's shelves.
-use Rattle.std.proofs.Common.{◌≡◌, ◌∙◌, refl, sym, ap, subst, ℕ, List, [], ◌∷◌, ◌++◌, length, map, take, drop, get_or, slice_set, ◌+◌, ◌-◌, ◌<◌, ◌≤◌, append-nil, append_assoc, take-append-drop, arith, Result, Ok, Err}
+use Rattle.std.proofs.Common.{◌≡◌, ◌∙◌, sym, ap, subst, ℕ, List, [], ◌∷◌, ◌++◌, length, map, take, drop, get_or, slice_set, ◌+◌, ◌-◌, ◌<◌, ◌≤◌, append-nil, append_assoc, take-append-drop, arith, Result, Ok, Err}
 use Rattle.std.specs.List.{AllZip}
 use Rattle.std.specs.Result.{IsErr}
 use Rattle.std.proofs.Math.Seq.{take-append_seam}

@@ -116,7 +116,8 @@ impl Ready {
         self.plan.aggregate()
     }
 
-    /// The pairs of a server's rows at a column, row after row; the value's column is the last one. The only error is want of memory.
+    /// The pairs of a server's rows at a column, row after row; the value's column is the last one. Each chunk of the column is
+    /// visited once, rising. The only error is want of memory; each shelf's visits are then the first of its own.
     pub fn cells<S: Shelf>(
         &self,
         alloc: Global,
@@ -135,8 +136,9 @@ impl Ready {
         Ok(cells)
     }
 
-    /// The bits of the first predicate in run 0 or 1: the servers scan their shelves and send each other their words. The only
-    /// error is want of memory; the first of these messages may then have been carried.
+    /// The bits of the first predicate in run 0 or 1: the servers scan their shelves and send each other their words. Each
+    /// server visits each chunk of the predicate's column once, rising. The only error is want of memory; the first of these
+    /// messages may then have been carried, and the first of these visits made.
     pub fn bits<R: Threads + Sync, S: Shelf + Send, W: Wire>(
         &self,
         rt: &R,

@@ -88,8 +88,9 @@ fn next_predicate<R: Threads + Sync, S: Shelf + Send, W: Wire>(
     Ok(product)
 }
 
-/// The bits and the products of a run, for all its predicates, however the run then ends. The only error is want of memory; the
-/// messages carried by then are the first ones of the run.
+/// The bits and the products of a run, for all its predicates, however the run then ends. Each server visits the predicates'
+/// columns in order, each chunk of a column once, rising. The only error is want of memory; the messages carried by then, and
+/// the visits of each shelf, are the first ones of the run.
 pub fn run_products<R: Threads + Sync, S: Shelf + Send, W: Wire>(
     rt: &R,
     alloc: Global,
@@ -156,7 +157,9 @@ fn run_once<R: Threads + Sync, S: Shelf + Send, W: Wire>(
 
 /// Both runs of a query over the rows at three servers, through a wire: run 0 opens the total, and run 1, with the weights of the
 /// keys, the weighted total. The shelves have the columns that the keys were made for, and the same number of rows at each
-/// server, at most 65,536. The only error is want of memory; the messages carried by then are the first ones of the query.
+/// server, at most 65,536. In each run a server visits the predicates' columns in order, and for a sum then the value's column,
+/// each chunk of a column once, rising. The only error is want of memory; the messages carried by then, and the visits of each
+/// shelf, are the first ones of the query.
 pub fn both_runs<R: Threads + Sync, S: Shelf + Send, W: Wire>(
     rt: &R,
     alloc: Global,

@@ -1,4 +1,4 @@
-use Rattle.std.proofs.Common.{◌≡◌, ◌∙◌, ◌<◌, ◌++◌, ap, sym, subst, rules, arith, map}
+use Rattle.std.proofs.Common.{◌∙◌, ◌++◌, ap, sym, rules}
 use Rattle.wire_line.specs.Carried.{went_both}
 use Rattle.transcript.specs.Setup.{Sizes, count_of}
 use Rattle.transcript.specs.Formulas.{total_ending}
@@ -72,7 +72,7 @@ returns-in_err-opened-clause-visits g c =
     let z = c.args.ready.now.plan in
     let p = c.in_ok-product.ensures in
     let both = all_then g.S.Shelf.held g.S.Shelf.visited (predicate_columns z) (opened_columns z.shape.aggregate z.widths.columns) _ _ _ _ _ p.zero p.one p.two p.visits
-        (rw p.plan at c.in_err-opened.ensures.visits) in
+    (rw p.plan at c.in_err-opened.ensures.visits) in
     all_fails g.S.Shelf.held g.S.Shelf.visited _ _ _ _ _ c.from_residual-in_err-opened.ensures.0 both
 
 pub returns-clause-visits : goal.returns-clause-visits
@@ -80,5 +80,5 @@ returns-clause-visits g c =
     let z = c.args.ready.now.plan in
     let p = c.in_ok-product.ensures in
     let both = all_then g.S.Shelf.held g.S.Shelf.visited (predicate_columns z) (opened_columns z.shape.aggregate z.widths.columns) _ _ _ _ _ p.zero p.one p.two p.visits
-        (rw p.plan at c.in_ok-opened.ensures.visits) in
+    (rw p.plan at c.in_ok-opened.ensures.visits) in
     all_done g.S.Shelf.held g.S.Shelf.visited _ _ _ _ _ both

@@ -1,9 +1,7 @@
-use Rattle.std.proofs.Common.{◌≡◌, ◌∙◌, ◌<◌, ◌≤◌, ℕ, [], ◌∷◌, sym, ap, length, get_or, arith, length-append}
+use Rattle.std.proofs.Common.{◌≡◌, ◌∙◌, ◌<◌, ◌≤◌, [], ◌∷◌, sym, ap, length, arith, length-append}
 use Rattle.std.proofs.lemmas.List.Elements.{All-same}
 use Rattle.scan_chunks.specs.Shelf.{Held, IsShelf}
 use Rattle.scan_chunks.specs.Scan.{visits_of}
-use Rattle.onehot_column.specs.Code.{width_of}
-use Rattle.onehot_column.proofs.CodeLaws.{width_last}
 use Rattle.server_rounds.proofs.Together.{all_items, set_at, shelf_at, lists_more, lists_all, cells_together}
 use Rattle.scan_chunks.proofs.Shelves.{part_whole, rest_more}
 use Rattle.server_rounds.proofs.Visiting.{column_all, column_more, column_stops, none_begun, visited_stopped}
