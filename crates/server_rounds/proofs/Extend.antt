@@ -6,7 +6,7 @@ use Rattle.wire_line.specs.declared.message.Message.{Message}
 use Rattle.wire_line.specs.Messages.{message_at}
 use Rattle.wire_line.specs.Carried.{message_before, message_from}
 use Rattle.transcript.specs.Setup.{Setup, count_of}
-use Rattle.transcript.specs.Steps.{Step, bits, product, further, opening, IsStep, group_of, place_of, chain_step, peer_of, receiver_of}
+use Rattle.transcript.specs.Steps.{Step, bits, product, further, opening, IsStep, group_of, place_of, peer_of, receiver_of}
 use Rattle.transcript.specs.Formulas.{words_of}
 use Rattle.transcript.specs.Transcript.{Fits, IsPart, seat_of, opened_at}
 use Rattle.transcript.proofs.Places.{group_within, place_within}

@@ -8,7 +8,7 @@ use Rattle.wire_line.specs.Carried.{message_before, message_after}
 use Rattle.scan_chunks.specs.Pieces.{Pieces}
 use Rattle.query_plan.specs.Views.{View}
 use Rattle.transcript.specs.Setup.{Sizes, Ending, count_of}
-use Rattle.transcript.specs.Steps.{Step, bits, product, further, opening, place_of, chain_step, step_before}
+use Rattle.transcript.specs.Steps.{bits, product, further, opening, place_of, chain_step, step_before}
 use Rattle.transcript.specs.Formulas.{bits_words, product_words, total_ending}
 use Rattle.transcript.specs.Transcript.{IsPart, seat_of}
 use Rattle.transcript.proofs.Places.{group-chain, group-before}

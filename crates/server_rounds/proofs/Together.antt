@@ -14,7 +14,6 @@ use Rattle.scan_chunks.specs.Laws.{AreParts}
 use Rattle.scan_chunks.proofs.Parts.{parts_scan}
 use Rattle.table_schema.specs.declared.widths.Widths.{Widths}
 use Rattle.onehot_column.specs.Code.{width_of}
-use Rattle.onehot_column.proofs.CodeLaws.{width_last}
 use Rattle.server_rounds.specs.Shelves.{AreShelves, pieces_of}
 
 -- what holds of each shelf's rows holds of each shelf

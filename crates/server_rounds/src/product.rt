@@ -1,11 +1,12 @@
-ghost use Rattle.std.specs.Prelude.{◌≡◌, ◌<◌, ◌+◌, List, Some, map, IfOk};
+ghost use Rattle.std.specs.Prelude.{◌≡◌, ◌<◌, ◌+◌, List, [], ◌∷◌, Some, map, IfOk};
 ghost use Rattle.wire_line.specs.declared.message.Message.{Message};
 ghost use Rattle.wire_line.specs.Messages.{Went};
-ghost use Rattle.transcript.specs.Setup.{count_of};
+ghost use Rattle.transcript.specs.Setup.{column_of, count_of};
 ghost use Rattle.server_rounds.specs.Groups.{by_server, AreLong, AreReshared, IsGroup};
 ghost use Rattle.server_rounds.specs.Plans.{views_of};
 ghost use Rattle.server_rounds.specs.Rounds.{IsOpened, bits_of, openings_of};
 ghost use Rattle.server_rounds.specs.Shelves.{AreShelves, pieces_of};
+ghost use Rattle.server_rounds.specs.Visits.{AllVisited, opened_columns};
 
 use crate::bits::Bits;
 use crate::held::Held;
@@ -34,8 +35,9 @@ pub struct Product {
 }
 
 impl Product {
-    /// The bits of the next predicate, with what the servers read when the run began. The only error is want of memory; the
-    /// first of these messages may then have been carried.
+    /// The bits of the next predicate, with what the servers read when the run began. Each server visits each chunk of the
+    /// predicate's column once, rising. The only error is want of memory; the first of these messages may then have been
+    /// carried, and the first of these visits made.
     pub fn bits<R: Threads + Sync, S: Shelf + Send, W: Wire>(
         self,
         rt: &R,
@@ -52,6 +54,7 @@ impl Product {
         ensures zero { map S.held shelves.new.zero.items ≡ map S.held shelves.old.zero.items }
         ensures one { map S.held shelves.new.one.items ≡ map S.held shelves.old.one.items }
         ensures two { map S.held shelves.new.two.items ≡ map S.held shelves.old.two.items }
+        ensures visits { AllVisited S.held S.visited (column_of self.plan (self.j + 1) ∷ []) shelves.old shelves.new result }
         ensures plan { IfOk result (λ b. b.plan ≡ self.plan) }
         ensures run { IfOk result (λ b. b.run ≡ self.run) }
         ensures j { IfOk result (λ b. b.j ≡ self.j + 1) }
@@ -92,8 +95,9 @@ impl Product {
     }
 
     /// The opening, with what the servers read when the run began: each server sends its share of the count, or of the sum, to
-    /// the client, which adds up what it received. The only error is want of memory; the first of these messages may then have
-    /// been carried.
+    /// the client, which adds up what it received. For a sum each server visits each chunk of the value's column once, rising; for
+    /// a count it visits none. The only error is want of memory; the first of these messages may then have been carried, and
+    /// the first of these visits made.
     pub fn reveal<R: Threads + Sync, S: Shelf + Send, W: Wire>(
         self,
         rt: &R,
@@ -109,6 +113,7 @@ impl Product {
         ensures zero { map S.held shelves.new.zero.items ≡ map S.held shelves.old.zero.items }
         ensures one { map S.held shelves.new.one.items ≡ map S.held shelves.old.one.items }
         ensures two { map S.held shelves.new.two.items ≡ map S.held shelves.old.two.items }
+        ensures visits { AllVisited S.held S.visited (opened_columns self.plan.shape.aggregate self.plan.widths.columns) shelves.old shelves.new result }
         ensures messages { let pieces = by_server (pieces_of (map S.held shelves.old.zero.items))
             (pieces_of (map S.held shelves.old.one.items)) (pieces_of (map S.held shelves.old.two.items)) in
             (ms : List Message) × Went W.told W.alterations W.passes wire.old ms wire.new

@@ -1,12 +1,14 @@
-ghost use Rattle.std.specs.Prelude.{◌≡◌, ◌*◌, ◌<◌, ◌≤◌, List, None, map, length, IfOk};
+ghost use Rattle.std.specs.Prelude.{◌≡◌, ◌*◌, ◌<◌, ◌≤◌, List, [], ◌∷◌, None, map, length, IfOk};
 ghost use Rattle.onehot_column.specs.Code.{width_of};
 ghost use Rattle.wire_line.specs.declared.message.Message.{Message};
 ghost use Rattle.wire_line.specs.Messages.{Went};
+ghost use Rattle.transcript.specs.Setup.{column_of};
 ghost use Rattle.server_rounds.specs.Groups.{by_server, AreReshared, IsGroup};
 ghost use Rattle.server_rounds.specs.Plans.{AreZeros, HaveTables, read_for, sizes_for, views_of, words_for};
 ghost use Rattle.server_rounds.specs.Rounds.{bits_of};
 ghost use Rattle.server_rounds.specs.Runs.{HaveRead};
 ghost use Rattle.server_rounds.specs.Shelves.{AreShelves, pieces_of};
+ghost use Rattle.server_rounds.specs.Visits.{AllVisited, AreVisited};
 
 use crate::bits::Bits;
 use crate::carry::{Trio, carry_three};
@@ -114,7 +116,8 @@ impl Ready {
         self.plan.aggregate()
     }
 
-    /// The pairs of a server's rows at a column, row after row; the value's column is the last one. The only error is want of memory.
+    /// The pairs of a server's rows at a column, row after row; the value's column is the last one. Each chunk of the column is
+    /// visited once, rising. The only error is want of memory; each shelf's visits are then the first of its own.
     pub fn cells<S: Shelf>(
         &self,
         alloc: Global,
@@ -127,13 +130,15 @@ impl Ready {
         ensures first { IfOk result (λ p. p.first ≡ (pieces_of (map S.held shelves.old.items)).first column) }
         ensures second { IfOk result (λ p. p.second ≡ (pieces_of (map S.held shelves.old.items)).second column) }
         ensures long { IfOk result (λ p. length p.first ≡ self.now.plan.rows * width_of self.now.plan.widths column) }
+        ensures visits { AreVisited S.held S.visited (column ∷ []) shelves.old.items shelves.new.items result }
     {
         let cells = read_cells(alloc, &self.plan, shelves, column)?;
         Ok(cells)
     }
 
-    /// The bits of the first predicate in run 0 or 1: the servers scan their shelves and send each other their words. The only
-    /// error is want of memory; the first of these messages may then have been carried.
+    /// The bits of the first predicate in run 0 or 1: the servers scan their shelves and send each other their words. Each
+    /// server visits each chunk of the predicate's column once, rising. The only error is want of memory; the first of these
+    /// messages may then have been carried, and the first of these visits made.
     pub fn bits<R: Threads + Sync, S: Shelf + Send, W: Wire>(
         &self,
         rt: &R,
@@ -149,6 +154,7 @@ impl Ready {
         ensures zero { map S.held shelves.new.zero.items ≡ map S.held shelves.old.zero.items }
         ensures one { map S.held shelves.new.one.items ≡ map S.held shelves.old.one.items }
         ensures two { map S.held shelves.new.two.items ≡ map S.held shelves.old.two.items }
+        ensures visits { AllVisited S.held S.visited (column_of self.now.plan 0 ∷ []) shelves.old shelves.new result }
         ensures plan { IfOk result (λ b. b.plan ≡ self.now.plan) }
         ensures run { IfOk result (λ b. b.run ≡ run) }
         ensures j { IfOk result (λ b. b.j ≡ 0) }

@@ -1,12 +1,13 @@
 //! The three messages of a step, at all servers.
-ghost use Rattle.std.specs.Prelude.{◌≡◌, ◌<◌, List, map, length, IfOk};
+ghost use Rattle.std.specs.Prelude.{◌≡◌, ◌<◌, List, [], ◌∷◌, map, length, IfOk};
 ghost use Rattle.wire_line.specs.declared.message.Message.{Message};
 ghost use Rattle.wire_line.specs.Messages.{Went};
-ghost use Rattle.transcript.specs.Setup.{count_of};
+ghost use Rattle.transcript.specs.Setup.{column_of, count_of};
 ghost use Rattle.server_rounds.specs.Groups.{by_server, AreLong, AreReshared, IsGroup};
 ghost use Rattle.server_rounds.specs.Plans.{HaveTables, views_of};
 ghost use Rattle.server_rounds.specs.Rounds.{IsOpened, bits_of, products_of, openings_of};
 ghost use Rattle.server_rounds.specs.Shelves.{AreShelves, pieces_of};
+ghost use Rattle.server_rounds.specs.Visits.{AllVisited, opened_columns};
 
 use crate::at_once::{all_three, bits_at_once, openings_at_once, products_at_once};
 use crate::carry::{Trio, carry_three};
@@ -41,6 +42,7 @@ pub(crate) fn bits_round<R: Threads + Sync, S: Shelf + Send, W: Wire>(
     ensures zero { map S.held shelves.new.zero.items ≡ map S.held shelves.old.zero.items }
     ensures one { map S.held shelves.new.one.items ≡ map S.held shelves.old.one.items }
     ensures two { map S.held shelves.new.two.items ≡ map S.held shelves.old.two.items }
+    ensures visits { AllVisited S.held S.visited (column_of plan.now j ∷ []) shelves.old shelves.new result }
     ensures long { IfOk result (λ held. AreLong plan.now.rows held) }
     ensures messages { let pieces = by_server (pieces_of (map S.held shelves.old.zero.items))
         (pieces_of (map S.held shelves.old.one.items)) (pieces_of (map S.held shelves.old.two.items)) in
@@ -125,6 +127,7 @@ pub(crate) fn opening_round<R: Threads + Sync, S: Shelf + Send, W: Wire>(
     ensures zero { map S.held shelves.new.zero.items ≡ map S.held shelves.old.zero.items }
     ensures one { map S.held shelves.new.one.items ≡ map S.held shelves.old.one.items }
     ensures two { map S.held shelves.new.two.items ≡ map S.held shelves.old.two.items }
+    ensures visits { AllVisited S.held S.visited (opened_columns plan.now.shape.aggregate plan.now.widths.columns) shelves.old shelves.new result }
     ensures messages { let pieces = by_server (pieces_of (map S.held shelves.old.zero.items))
         (pieces_of (map S.held shelves.old.one.items)) (pieces_of (map S.held shelves.old.two.items)) in
         (ms : List Message) × Went W.told W.alterations W.passes wire.old ms wire.new

@@ -1,15 +1,16 @@
 //! A run, and both runs of a query.
-ghost use Rattle.std.specs.Prelude.{◌≡◌, ◌<◌, ◌≤◌, ◌+◌, List, map, IfOk};
+ghost use Rattle.std.specs.Prelude.{◌≡◌, ◌<◌, ◌≤◌, ◌+◌, List, [], ◌∷◌, map, IfOk};
 ghost use Rattle.wire_line.specs.declared.message.Message.{Message};
 ghost use Rattle.wire_line.specs.Messages.{Went};
-ghost use Rattle.transcript.specs.Setup.{Ending, count_of};
+ghost use Rattle.transcript.specs.Setup.{Ending, column_of, count_of};
 ghost use Rattle.transcript.specs.Formulas.{setup_for, total_ending};
 ghost use Rattle.transcript.specs.Transcript.{IsPart, IsTranscript, opened_of};
 ghost use Rattle.server_rounds.specs.Groups.{by_server, AreReshared, IsGroup};
-ghost use Rattle.server_rounds.specs.Plans.{views_of};
+ghost use Rattle.server_rounds.specs.Plans.{sizes_for, views_of};
 ghost use Rattle.server_rounds.specs.Rounds.{bits_of};
 ghost use Rattle.server_rounds.specs.Runs.{HaveProducts, IsPredicatePart, IsRun, IsRunPart};
 ghost use Rattle.server_rounds.specs.Shelves.{AreShelves, pieces_of, rows_of};
+ghost use Rattle.server_rounds.specs.Visits.{AllVisited, predicate_columns, query_columns, run_columns};
 ghost use Rattle.server_rounds.specs.declared.way.Way.TheVariants.{Around};
 
 use crate::opened::OpenedPair;
@@ -40,6 +41,7 @@ fn first_predicate<R: Threads + Sync, S: Shelf + Send, W: Wire>(
     ensures zero { map S.held shelves.new.zero.items ≡ map S.held shelves.old.zero.items }
     ensures one { map S.held shelves.new.one.items ≡ map S.held shelves.old.one.items }
     ensures two { map S.held shelves.new.two.items ≡ map S.held shelves.old.two.items }
+    ensures visits { AllVisited S.held S.visited (column_of ready.now.plan 0 ∷ []) shelves.old shelves.new result }
     ensures plan { IfOk result (λ p. p.plan ≡ ready.now.plan) }
     ensures run { IfOk result (λ p. p.run ≡ run) }
     ensures j { IfOk result (λ p. p.j ≡ 0) }
@@ -71,6 +73,7 @@ fn next_predicate<R: Threads + Sync, S: Shelf + Send, W: Wire>(
     ensures zero { map S.held shelves.new.zero.items ≡ map S.held shelves.old.zero.items }
     ensures one { map S.held shelves.new.one.items ≡ map S.held shelves.old.one.items }
     ensures two { map S.held shelves.new.two.items ≡ map S.held shelves.old.two.items }
+    ensures visits { AllVisited S.held S.visited (column_of chain.plan (chain.j + 1) ∷ []) shelves.old shelves.new result }
     ensures plan { IfOk result (λ p. p.plan ≡ chain.plan) }
     ensures run { IfOk result (λ p. p.run ≡ chain.run) }
     ensures j { IfOk result (λ p. p.j ≡ chain.j + 1) }
@@ -85,8 +88,9 @@ fn next_predicate<R: Threads + Sync, S: Shelf + Send, W: Wire>(
     Ok(product)
 }
 
-/// The bits and the products of a run, for all its predicates, however the run then ends. The only error is want of memory; the
-/// messages carried by then are the first ones of the run.
+/// The bits and the products of a run, for all its predicates, however the run then ends. Each server visits the predicates'
+/// columns in order, each chunk of a column once, rising. The only error is want of memory; the messages carried by then, and
+/// the visits of each shelf, are the first ones of the run.
 pub fn run_products<R: Threads + Sync, S: Shelf + Send, W: Wire>(
     rt: &R,
     alloc: Global,
@@ -102,6 +106,7 @@ pub fn run_products<R: Threads + Sync, S: Shelf + Send, W: Wire>(
     ensures zero { map S.held shelves.new.zero.items ≡ map S.held shelves.old.zero.items }
     ensures one { map S.held shelves.new.one.items ≡ map S.held shelves.old.one.items }
     ensures two { map S.held shelves.new.two.items ≡ map S.held shelves.old.two.items }
+    ensures visits { AllVisited S.held S.visited (predicate_columns ready.now.plan) shelves.old shelves.new result }
     ensures plan { IfOk result (λ p. p.plan ≡ ready.now.plan) }
     ensures run { IfOk result (λ p. p.run ≡ run) }
     ensures last { IfOk result (λ p. p.j + 1 ≡ count_of ready.now.plan) }
@@ -136,6 +141,7 @@ fn run_once<R: Threads + Sync, S: Shelf + Send, W: Wire>(
     ensures zero { map S.held shelves.new.zero.items ≡ map S.held shelves.old.zero.items }
     ensures one { map S.held shelves.new.one.items ≡ map S.held shelves.old.one.items }
     ensures two { map S.held shelves.new.two.items ≡ map S.held shelves.old.two.items }
+    ensures visits { AllVisited S.held S.visited (run_columns ready.now.plan) shelves.old shelves.new result }
     ensures some { IfOk result (λ _. 0 < count_of ready.now.plan) }
     ensures messages { let pieces = by_server (pieces_of (map S.held shelves.old.zero.items))
         (pieces_of (map S.held shelves.old.one.items)) (pieces_of (map S.held shelves.old.two.items)) in
@@ -151,7 +157,9 @@ fn run_once<R: Threads + Sync, S: Shelf + Send, W: Wire>(
 
 /// Both runs of a query over the rows at three servers, through a wire: run 0 opens the total, and run 1, with the weights of the
 /// keys, the weighted total. The shelves have the columns that the keys were made for, and the same number of rows at each
-/// server, at most 65,536. The only error is want of memory; the messages carried by then are the first ones of the query.
+/// server, at most 65,536. In each run a server visits the predicates' columns in order, and for a sum then the value's column,
+/// each chunk of a column once, rising. The only error is want of memory; the messages carried by then, and the visits of each
+/// shelf, are the first ones of the query.
 pub fn both_runs<R: Threads + Sync, S: Shelf + Send, W: Wire>(
     rt: &R,
     alloc: Global,
@@ -166,6 +174,7 @@ pub fn both_runs<R: Threads + Sync, S: Shelf + Send, W: Wire>(
     ensures zero { map S.held shelves.new.zero.items ≡ map S.held shelves.old.zero.items }
     ensures one { map S.held shelves.new.one.items ≡ map S.held shelves.old.one.items }
     ensures two { map S.held shelves.new.two.items ≡ map S.held shelves.old.two.items }
+    ensures visits { AllVisited S.held S.visited (query_columns (sizes_for keys.now (rows_of (map S.held shelves.old.zero.items)))) shelves.old shelves.new result }
     ensures messages { let pieces = by_server (pieces_of (map S.held shelves.old.zero.items))
         (pieces_of (map S.held shelves.old.one.items)) (pieces_of (map S.held shelves.old.two.items)) in
         let setup = setup_for keys.now.query keys.now.widths keys.now.seed (rows_of (map S.held shelves.old.zero.items)) pieces in

@@ -78,6 +78,7 @@ pub(crate) fn read_cells<S: Shelf>(
     ensures first { IfOk result (λ p. p.first ≡ (pieces_of (map S.held shelves.old.items)).first column) }
     ensures second { IfOk result (λ p. p.second ≡ (pieces_of (map S.held shelves.old.items)).second column) }
     ensures long { IfOk result (λ p. length p.first ≡ plan.now.rows * width_of plan.now.widths column) }
+    ensures visits { AreVisited S.held S.visited (column ∷ []) shelves.old.items shelves.new.items result }
 {
     let rows = rows_together(plan, shelves.as_slice()) as usize;
     let mut first = Vec::with_capacity(alloc, rows)?;

@@ -1,4 +1,4 @@
-use Rattle.std.proofs.Common.{◌≡◌, ◌∙◌, ap, length, List, ℕ}
+use Rattle.std.proofs.Common.{◌∙◌, ap, length}
 use Rattle.list_facts.proofs.Listed.{length-listed}
 use Rattle.query_plan.specs.KeyMessages.{view_from}
 use Rattle.server_rounds.specs.Plans.{views_of}

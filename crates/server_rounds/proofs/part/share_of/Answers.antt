@@ -1,4 +1,3 @@
-use Rattle.std.proofs.Common.{sym}
 use Rattle.server_rounds.proofs.Visiting.{none_seen}
 use Rattle.server_rounds.proofs.part.share_of.Goals as goal
 

@@ -1,7 +1,8 @@
-use Rattle.std.proofs.Common.{◌≡◌, ◌∙◌, sym, [], refl, rules}
+use Rattle.std.proofs.Common.{◌∙◌, sym, [], refl, rules}
 use Rattle.std.proofs.lemmas.Result.{IfOk-at_ok}
 use Rattle.wire_line.specs.Carried.{went_none}
 use Rattle.server_rounds.proofs.Messages.{group_none, regroup, three_same}
+use Rattle.server_rounds.proofs.Visiting.{all_made, all_stopped}
 use Rattle.server_rounds.proofs.rounds.bits_round.Goals as goal
 
 pub returns-in_err-words-clause-messages : goal.returns-in_err-words-clause-messages
@@ -34,3 +35,19 @@ returns-clause-messages g c =
     let e1 = IfOk-at_ok _ c.in_ok-words.ensures.at1 c.bits_at_once-zero.ensures.one.words in
     let e2 = IfOk-at_ok _ c.in_ok-words.ensures.at2 c.bits_at_once-zero.ensures.two.words in
     (h.0, h.1, regroup _ _ _ h.0 h.2 (three_same _ _ e0 e1 e2), h.3)
+
+pub returns-in_err-words-clause-visits : goal.returns-in_err-words-clause-visits
+returns-in_err-words-clause-visits g c =
+    let v = c.bits_at_once-zero.ensures in
+    all_stopped g.S.Shelf.held g.S.Shelf.visited _ _ _ _ _ _ _ c.from_residual.ensures.0 v.zero.visits v.one.visits v.two.visits
+
+pub returns-in_err-held-clause-visits : goal.returns-in_err-held-clause-visits
+returns-in_err-held-clause-visits g c =
+    let v = c.bits_at_once-zero.ensures in
+    all_stopped g.S.Shelf.held g.S.Shelf.visited _ _ _ _ _ _ _ c.from_residual-in_err-held.ensures.0 v.zero.visits v.one.visits v.two.visits
+
+pub returns-clause-visits : goal.returns-clause-visits
+returns-clause-visits g c =
+    let v = c.bits_at_once-zero.ensures in
+    let w = c.in_ok-words.ensures in
+    all_made g.S.Shelf.held g.S.Shelf.visited _ _ _ _ _ _ _ _ _ _ w.at0 w.at1 w.at2 v.zero.visits v.one.visits v.two.visits

@@ -7,8 +7,10 @@ use Rattle.transcript.specs.Formulas.{total_ending}
 use Rattle.server_rounds.specs.Groups.{by_server}
 use Rattle.server_rounds.specs.Plans.{read_for, sizes_for, views_of, words_for}
 use Rattle.server_rounds.specs.Shelves.{AreShelves, pieces_of, rows_of}
+use Rattle.server_rounds.specs.Visits.{run_columns}
 use Rattle.server_rounds.proofs.Both.{after_keys, after_run, whole_pair}
 use Rattle.server_rounds.proofs.Together.{total-map, counted}
+use Rattle.server_rounds.proofs.Visiting.{all_cut, all_done, all_fails, all_none, all_then}
 use Rattle.server_rounds.proofs.run.both_runs.Goals as goal
 
 pub count_rows-rows-requires : goal.count_rows-rows-requires
@@ -128,3 +130,34 @@ returns-clause-messages g c =
     let some : 0 < count_of z = rw plan at c.in_ok-total.ensures.some in
     let part = w.2 words read (k.0 ++ r.0) b1 in
     ((k.0 ++ r.0) ++ w.0, went, part, whole_pair z ending words read pieces views k.0 r.0 w.0 0 _ _ some b0 b1 r.3 part w.3)
+
+pub returns-in_err-ready-clause-visits : goal.returns-in_err-ready-clause-visits
+returns-in_err-ready-clause-visits g c = all_none g.S.Shelf.held g.S.Shelf.visited _ _ _ c.from_residual.ensures.0
+
+pub returns-in_err-total-clause-visits : goal.returns-in_err-total-clause-visits
+returns-in_err-total-clause-visits g c =
+    let held = g.S.Shelf.held in
+    let rows = counted held c.args.shelves.now.zero.items _ _ c.count_rows-rows.ensures.count c.as_slice.ensures.value in
+    let z = sizes_for c.args.keys.now (rows_of (map held c.args.shelves.now.zero.items)) in
+    let plan : c.in_ok-ready.ready.plan ≡ z = c.in_ok-ready.ensures.plan ∙ ap (sizes_for c.args.keys.now) rows in
+    all_cut held g.S.Shelf.visited (run_columns z) (run_columns z) _ _ _ _ c.from_residual-in_err-total.ensures.0 (rw plan at c.in_err-total.ensures.visits)
+
+pub returns-in_err-weighted-clause-visits : goal.returns-in_err-weighted-clause-visits
+returns-in_err-weighted-clause-visits g c =
+    let held = g.S.Shelf.held in
+    let rows = counted held c.args.shelves.now.zero.items _ _ c.count_rows-rows.ensures.count c.as_slice.ensures.value in
+    let z = sizes_for c.args.keys.now (rows_of (map held c.args.shelves.now.zero.items)) in
+    let plan : c.in_ok-ready.ready.plan ≡ z = c.in_ok-ready.ensures.plan ∙ ap (sizes_for c.args.keys.now) rows in
+    let t = c.in_ok-total.ensures in
+    let both = all_then held g.S.Shelf.visited (run_columns z) (run_columns z) _ _ _ _ _ t.zero t.one t.two (rw plan at t.visits) (rw plan at c.in_err-weighted.ensures.visits) in
+    all_fails held g.S.Shelf.visited _ _ _ _ _ c.from_residual-in_err-weighted.ensures.0 both
+
+pub returns-clause-visits : goal.returns-clause-visits
+returns-clause-visits g c =
+    let held = g.S.Shelf.held in
+    let rows = counted held c.args.shelves.now.zero.items _ _ c.count_rows-rows.ensures.count c.as_slice.ensures.value in
+    let z = sizes_for c.args.keys.now (rows_of (map held c.args.shelves.now.zero.items)) in
+    let plan : c.in_ok-ready.ready.plan ≡ z = c.in_ok-ready.ensures.plan ∙ ap (sizes_for c.args.keys.now) rows in
+    let t = c.in_ok-total.ensures in
+    let both = all_then held g.S.Shelf.visited (run_columns z) (run_columns z) _ _ _ _ _ t.zero t.one t.two (rw plan at t.visits) (rw plan at c.in_ok-weighted.ensures.visits) in
+    all_done held g.S.Shelf.visited _ _ _ _ _ both

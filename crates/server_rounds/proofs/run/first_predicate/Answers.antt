@@ -1,6 +1,7 @@
 use Rattle.std.proofs.Common.{rules}
 use Rattle.wire_line.specs.Carried.{went_both}
 use Rattle.server_rounds.proofs.Messages.{none_matched, went_just}
+use Rattle.server_rounds.proofs.Visiting.{all_fails}
 use Rattle.server_rounds.proofs.run.first_predicate.Goals as goal
 
 pub returns-in_err-product-clause-messages : goal.returns-in_err-product-clause-messages
@@ -19,3 +20,6 @@ returns-clause-messages g c =
     let same = none_matched _ _ _ c.in_ok-bits.ensures.chain p.3 in
     let went = went_both g.W.Wire.told g.W.Wire.alterations g.W.Wire.passes g.met.W.Wire.both_pass _ _ _ b.0 p.0 b.1 p.1 in
     (b.0, went_just g.W.Wire.told g.W.Wire.alterations g.W.Wire.passes _ _ b.0 p.0 none went, b.2, rw same b.3)
+
+pub returns-in_err-product-clause-visits : goal.returns-in_err-product-clause-visits
+returns-in_err-product-clause-visits g c = all_fails g.S.Shelf.held g.S.Shelf.visited _ _ _ _ _ c.from_residual-in_err-product.ensures.0 c.in_ok-bits.ensures.visits

@@ -1,6 +1,7 @@
 use Rattle.std.proofs.Common.{[], ◌++◌, refl, sym, rules, arith, append-nil}
 use Rattle.wire_line.specs.Carried.{went_both}
 use Rattle.server_rounds.proofs.Messages.{group_none, some_matched}
+use Rattle.server_rounds.proofs.Visiting.{all_fails}
 use Rattle.server_rounds.proofs.run.next_predicate.Goals as goal
 
 pub returns-in_err-bits-clause-messages : goal.returns-in_err-bits-clause-messages
@@ -65,3 +66,6 @@ returns-clause-messages g c =
         some_matched bits.chain c.args.chain.chain _ _ c.in_ok-bits.ensures.chain p.3,
       ),
     )
+
+pub returns-in_err-product-clause-visits : goal.returns-in_err-product-clause-visits
+returns-in_err-product-clause-visits g c = all_fails g.S.Shelf.held g.S.Shelf.visited _ _ _ _ _ c.from_residual-in_err-product.ensures.0 c.in_ok-bits.ensures.visits

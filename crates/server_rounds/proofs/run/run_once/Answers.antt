@@ -1,8 +1,10 @@
-use Rattle.std.proofs.Common.{◌≡◌, ◌∙◌, ◌<◌, ◌++◌, ap, sym, subst, rules, arith, map}
+use Rattle.std.proofs.Common.{◌∙◌, ◌++◌, ap, sym, rules}
 use Rattle.wire_line.specs.Carried.{went_both}
 use Rattle.transcript.specs.Setup.{Sizes, count_of}
 use Rattle.transcript.specs.Formulas.{total_ending}
+use Rattle.server_rounds.specs.Visits.{opened_columns, predicate_columns}
 use Rattle.server_rounds.proofs.Runs.{opening_part, run_ends}
+use Rattle.server_rounds.proofs.Visiting.{all_cut, all_done, all_fails, all_then}
 use Rattle.server_rounds.proofs.run.run_once.Goals as goal
 
 pub returns-in_err-product-clause-messages : goal.returns-in_err-product-clause-messages
@@ -59,3 +61,24 @@ returns-clause-messages g c =
       opening_part _ _ _ _ _ p.messages.0 o.0 c.requires.run p.messages.3 o.2,
       run_ends _ _ _ _ _ p.messages.0 o.0 _ p.messages.3 o.3,
     )
+
+pub returns-in_err-product-clause-visits : goal.returns-in_err-product-clause-visits
+returns-in_err-product-clause-visits g c =
+    let z = c.args.ready.now.plan in
+    all_cut g.S.Shelf.held g.S.Shelf.visited (predicate_columns z) (opened_columns z.shape.aggregate z.widths.columns) _ _ _ _ c.from_residual.ensures.0 c.in_err-product.ensures.visits
+
+pub returns-in_err-opened-clause-visits : goal.returns-in_err-opened-clause-visits
+returns-in_err-opened-clause-visits g c =
+    let z = c.args.ready.now.plan in
+    let p = c.in_ok-product.ensures in
+    let both = all_then g.S.Shelf.held g.S.Shelf.visited (predicate_columns z) (opened_columns z.shape.aggregate z.widths.columns) _ _ _ _ _ p.zero p.one p.two p.visits
+    (rw p.plan at c.in_err-opened.ensures.visits) in
+    all_fails g.S.Shelf.held g.S.Shelf.visited _ _ _ _ _ c.from_residual-in_err-opened.ensures.0 both
+
+pub returns-clause-visits : goal.returns-clause-visits
+returns-clause-visits g c =
+    let z = c.args.ready.now.plan in
+    let p = c.in_ok-product.ensures in
+    let both = all_then g.S.Shelf.held g.S.Shelf.visited (predicate_columns z) (opened_columns z.shape.aggregate z.widths.columns) _ _ _ _ _ p.zero p.one p.two p.visits
+    (rw p.plan at c.in_ok-opened.ensures.visits) in
+    all_done g.S.Shelf.held g.S.Shelf.visited _ _ _ _ _ both

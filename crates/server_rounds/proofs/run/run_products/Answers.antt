@@ -1,7 +1,8 @@
-use Rattle.std.proofs.Common.{◌≡◌, ◌∙◌, ◌<◌, ◌++◌, ap, rules, arith}
+use Rattle.std.proofs.Common.{◌≡◌, ◌∙◌, ◌<◌, ◌≤◌, ◌+◌, ◌++◌, ap, rules, arith}
 use Rattle.wire_line.specs.Carried.{went_both}
-use Rattle.transcript.specs.Setup.{Sizes, count_of}
+use Rattle.transcript.specs.Setup.{Sizes, column_of, count_of}
 use Rattle.server_rounds.proofs.Runs.{first_part, so_far_first, predicate_part, so_far_more}
+use Rattle.server_rounds.proofs.Visiting.{all_first, all_more}
 use Rattle.server_rounds.proofs.run.run_products.Goals as goal
 
 pub returns-in_err-product-clause-messages : goal.returns-in_err-product-clause-messages
@@ -21,6 +22,7 @@ loop-j-init g c =
       plan = c.in_ok-product.ensures.plan;
       run = c.in_ok-product.ensures.run;
       j = omega (arith, c.in_ok-product.ensures.j);
+      visits = c.in_ok-product.ensures.visits;
       messages = (b.0, b.1, so_far_first _ _ _ _ _ b.0 c.requires.run some b.2 b.3);
     }
 
@@ -70,6 +72,9 @@ loop-j-preserved g c =
       plan = c.in_ok-product-2.ensures.plan ∙ i.plan;
       run = c.in_ok-product-2.ensures.run ∙ i.run;
       j = omega (arith, c.in_ok-product-2.ensures.j, i.j);
+      visits =
+          all_more g.S.Shelf.held g.S.Shelf.visited c.loop-j._j (column_of c.args.ready.now.plan) _ _ _ _ _ i.zero i.one i.two i.visits
+          (rw (i.plan, i.j) at c.in_ok-product-2.ensures.visits);
       messages = (i.messages.0 ++ m.0, went, so_far_more _ _ _ _ _ _ _ i.messages.0 m.0 c.requires.run some i.messages.2 m.2.0 m.2.1);
     }
 
@@ -92,3 +97,21 @@ returns-clause-messages g c =
     let all : c.loop-j._j ≡ count_of c.args.ready.now.plan = omega (arith, c.loop-j-test.false, c.count-count.ensures.value, c.count-count.ensures.some, c.loop-j.auto._j-end) in
     let so = rw all at i.messages.2 in
     (i.messages.0, i.messages.1, so.part, so)
+
+pub returns-in_err-product-clause-visits : goal.returns-in_err-product-clause-visits
+returns-in_err-product-clause-visits g c =
+    let some : 1 ≤ count_of c.args.ready.now.plan = omega (arith, c.count-count.ensures.some, c.count-count.ensures.value) in
+    all_first g.S.Shelf.held g.S.Shelf.visited 1 (count_of c.args.ready.now.plan) (column_of c.args.ready.now.plan) _ _ _ _ some c.from_residual.ensures.0 c.in_err-product.ensures.visits
+
+pub returns-in_err-product-2-clause-visits : goal.returns-in_err-product-2-clause-visits
+returns-in_err-product-2-clause-visits g c =
+    let i = c.loop-j.invariant in
+    let columns = column_of c.args.ready.now.plan in
+    let some : c.loop-j._j + 1 ≤ count_of c.args.ready.now.plan = omega (arith, c.loop-j-test.true, c.count-count.ensures.value) in
+    let more = all_more g.S.Shelf.held g.S.Shelf.visited c.loop-j._j columns _ _ _ _ _ i.zero i.one i.two i.visits (rw (i.plan, i.j) at c.in_err-product-2.ensures.visits) in
+    all_first g.S.Shelf.held g.S.Shelf.visited (c.loop-j._j + 1) (count_of c.args.ready.now.plan) columns _ _ _ _ some c.from_residual-in_err-product-2.ensures.0 more
+
+pub returns-clause-visits : goal.returns-clause-visits
+returns-clause-visits g c =
+    let all : c.loop-j._j ≡ count_of c.args.ready.now.plan = omega (arith, c.loop-j-test.false, c.count-count.ensures.value, c.count-count.ensures.some, c.loop-j.auto._j-end) in
+    rw all at c.loop-j.invariant.visits

@@ -1,10 +1,13 @@
-use Rattle.std.proofs.Common.{◌≡◌, ◌+◌, List, map}
+use Rattle.std.proofs.Common.{◌≡◌, ◌+◌, List, map, Ok}
 use Rattle.wire_line.specs.declared.message.Message.{Message}
 use Rattle.wire_line.specs.Messages.{Went}
+use Rattle.list_facts.specs.Listed.{listed}
+use Rattle.transcript.specs.Setup.{column_of}
 use Rattle.server_rounds.specs.Groups.{by_server}
 use Rattle.server_rounds.specs.Plans.{views_of}
 use Rattle.server_rounds.specs.Shelves.{pieces_of}
 use Rattle.server_rounds.specs.Runs.{HaveProducts}
+use Rattle.server_rounds.specs.Visits.{AllVisited}
 use Rattle.server_rounds.proofs.run.run_products.Given as goal
 
 abbrev pub invariant-loop-j : goal.invariant-loop-j
@@ -16,6 +19,7 @@ invariant-loop-j g l =
       plan : l.product.plan ≡ l.ready.plan;
       run : l.product.run ≡ l.run;
       j : l.product.j + 1 ≡ l._j;
+      visits : AllVisited held g.S.Shelf.visited (listed l._j (column_of l.ready.plan)) l.fn.shelves l.shelves (Ok l.product);
       messages : (ms : List Message) × Went g.W.Wire.told g.W.Wire.alterations g.W.Wire.passes l.fn.wire ms l.wire
           × HaveProducts l.ready.plan
           (by_server (pieces_of (map held l.fn.shelves.zero.items)) (pieces_of (map held l.fn.shelves.one.items)) (pieces_of (map held l.fn.shelves.two.items)))

@@ -1,10 +1,8 @@
-use Rattle.std.proofs.Common.{◌≡◌, ◌∙◌, sym, ap, ℕ, List, [], ◌∷◌, length, arith, ◌++◌}
+use Rattle.std.proofs.Common.{◌≡◌, ◌∙◌, sym, ap, ℕ, [], ◌∷◌, length, ◌++◌}
 use Rattle.std.proofs.lemmas.List.Elements.{All-same}
 use Rattle.list_facts.specs.Count.{total}
-use Rattle.share_product.specs.Product.{inner_of}
 use Rattle.scan_chunks.specs.Shelf.{Held}
-use Rattle.scan_chunks.specs.Scan.{visits_of, VisitsPart}
-use Rattle.server_rounds.specs.Shelves.{pieces_of}
+use Rattle.scan_chunks.specs.Scan.{VisitsPart}
 use Rattle.server_rounds.specs.Visits.{visits_at}
 use Rattle.server_rounds.proofs.Together.{all_items, lent_held, lists_held, total-map}
 use Rattle.server_rounds.proofs.Visiting.{lent_as_left, column_seen, column_begun, visited_stopped}

@@ -1,4 +1,4 @@
-use Rattle.std.proofs.Common.{rules, arith, ap, sym, ◌≡◌, ◌∙◌, ℕ, ◌+◌, ◌-◌, ◌*◌, ◌<◌, ◌≤◌, min, List, length, take, drop}
+use Rattle.std.proofs.Common.{rules, arith, ap, ◌≡◌, ◌∙◌, ℕ, ◌+◌, ◌-◌, ◌*◌, ◌<◌, ◌≤◌, min, length}
 use Rattle.share_product.specs.Product.{inner_of}
 use Rattle.scan_chunks.specs.Pieces.{chunk_of, chunks_of}
 use Rattle.scan_chunks.proofs.Visits.{stopped, visited_more}

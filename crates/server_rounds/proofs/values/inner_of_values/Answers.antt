@@ -1,4 +1,4 @@
-use Rattle.std.proofs.Common.{◌≡◌, ◌∙◌, refl, ap, sym, ◌++◌, ◌≤◌, ◌<◌, ◌*◌, ℕ, List, get_or, take, length, arith}
+use Rattle.std.proofs.Common.{◌≡◌, ◌∙◌, refl, ap, sym, ◌++◌, ◌≤◌, ◌<◌, ◌*◌, ℕ, get_or, take, length, arith}
 use Rattle.std.proofs.lemmas.List.{take_all}
 use Rattle.list_facts.specs.Count.{total}
 use Rattle.scan_chunks.specs.Scan.{visits_of, VisitsPart}
