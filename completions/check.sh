@@ -25,6 +25,8 @@ while IFS='|' read -r line wanted; do
 done <<'LINES'
 ./waldo s|schema
 ./waldo rep|replay
+./waldo r|race,replay
+./waldo help r|race,replay,rows
 ./waldo x|
 ./waldo help mak|make
 ./waldo ask ho|
@@ -41,6 +43,16 @@ done <<'LINES'
 ./waldo ask host:2 --query "count host=3" --q|--query
 ./waldo replay host:2 --schedule "d0 p0.0" --s|--seed
 ./waldo replay host:2 --sc|--schedule
+./waldo race host:2 |--askers,--capacity,--query,--rounds,--seed,--workers,--writers
+./waldo race host:2 --w|--workers,--writers
+./waldo race host:2 --writers 1|1,10,11,12,13,14,15,16
+./waldo race host:2 --askers=16|16
+./waldo race host:2 --rounds 2|2
+./waldo race host:2 --writers 2 --rounds=3 --|--askers,--capacity,--query,--seed,--workers
+./waldo race host:2 --capacity |
+./waldo race host:2,load:4@0/10 --query "sum l|sum load<=,sum load=
+./waldo ask host:2 --wr|
+./waldo ask host:2 --writers |
 ./waldo make host:2 --|--number,--query,--rows,--seed,--workers
 ./waldo ask host:2,load:4@0/10 --query "|count host<=,count host=,count load<=,count load=,sum host<=,sum host=,sum load<=,sum load=
 ./waldo ask host:2,load:4@0/10 --query "s|sum host<=,sum host=,sum load<=,sum load=
@@ -79,6 +91,7 @@ if command -v zsh >/dev/null && zsh -fc 'zmodload zsh/zpty' 2>/dev/null; then
   done <<'LINES'
 ./waldo help sch|schedules,schema,schemas
 ./waldo ask host:2 --workers |1,10,11,12,13,14,15,16,2,3,4,5,6,7,8,9
+./waldo race host:2 --rounds |1,10,11,12,13,14,15,16,2,3,4,5,6,7,8,9
 ./waldo ask host:2,load:4@0/10 --query "|count,sum
 ./waldo ask host:2,load:4@0/10 --query "count host=3 |load<=,load=
 ./waldo replay host:2 --schedule "d0 p|p0.0,p0.1,p0.2

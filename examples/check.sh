@@ -1,8 +1,9 @@
 #!/usr/bin/env bash
 # Runs each command of this folder's page and of the guide, and compares text and status with what the page says. A block of
 # `sh` is a command and the block of `text` behind it is what it prints; the status is 0 unless the words before say
-# "Status 5.", and so on. Then it compares what the launcher says of refused words with the guide's table, and looks that each
-# command that help and the man page show is one of those that were run.
+# "Status 5.", and so on. A block of `text one run` is what one run of a race printed: what every run prints alike is compared.
+# Then it compares what the launcher says of refused words with the guide's table, and looks that each command that help and
+# the man page show is one of those that were run.
 set -u
 cd "$(dirname "$0")/.." || exit 2
 failed=0
@@ -15,21 +16,29 @@ differs() { # what, wanted, printed
 }
 
 # One command with its answer, which ends with the status so that line feeds at its end are compared too.
-check() { # command, status, text
-  differs "$1" "$3(status $2)" "$(bash -c "$1" 2>/dev/null; echo "(status $?)")"
+check() { # command, status, text, filter for both
+  differs "$1" "$(printf '%s(status %s)\n' "$3" "$2" | $4)" "$({ bash -c "$1" 2>/dev/null; echo "(status $?)"; } | $4)"
   checked=$((checked + 1))
 }
 
+# What every run of a race prints alike: its lines but for the row at a place and for what writers and askers see; and, in the end, each
+# row that is placed, with how often.
+alike() {
+  awk '$1 == "place" { placed[$4]++ } { print $1 ~ /^(place|back|ask)$/ ? $1 " " $2 : $0 }
+    END { for (row = 0; row in placed; row++) print "row " row " placed " placed[row] }'
+}
+
 check_page() {
-  local line state=prose command='' text='' status=0
+  local line state=prose command='' text='' status=0 filter
   while IFS= read -r line; do
     case $state:$line in
       prose:'```sh') state=command command='' ;;
       command:'```') state=between ;;
       command:*) command+=$line$'\n' ;;
-      between:'```text') state=text text='' ;;
+      between:'```text') state=text text='' filter=cat ;;
+      between:'```text one run') state=text text='' filter=alike ;;
       between:'```'*) differs "$1: $command" "a block of text" "$line"; state=prose ;;
-      text:'```') check "$command" "$status" "$text"; state=prose status=0 ;;
+      text:'```') check "$command" "$status" "$text" $filter; state=prose status=0 ;;
       text:*) text+=$line$'\n' ;;
       prose:*'Status '[0-9].*) status=${line#*Status }; status=${status%%.*} ;;
     esac
