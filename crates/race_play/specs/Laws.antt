@@ -36,6 +36,7 @@ GatheredStands = (rows : List Row) (master : Seed) (writers : ℕ) (order : List
 -- the line of a writer that began with nothing seen is a line over the printed order
 abbrev pub BacksStand : Type 0
 BacksStand = (rows : List Row) (master : Seed) (writers : ℕ) (order : List (Row × Seed)) (places : List (List ℕ)) (printed : List ℕ)
-    → Stands rows master writers order places printed → (w : ℕ) (own : List ℕ) (p : PassView) (line : Line) (q : PassView) → slice_get places w ≡ Some own → p.floor ≡ 0
+    → Stands rows master writers order places printed
+    → (w : ℕ) (own : List ℕ) (p : PassView) (line : Line) (q : PassView) → slice_get places w ≡ Some own → p.floor ≡ 0
     → Wrote_back rows master w (turns w writers (length rows)) p own line q
     → IsPrefix q.sight.order order → q.floor ≤ length q.sight.order → IsBackLine (length rows) writers printed w line

@@ -84,7 +84,7 @@ struct Outcome {
     altered: bool,
 }
 
-fn outcome(alloc: Global, ran: &Ran, begins: &[u8], ends: &[u8]) -> Result<Outcome, Memory> {
+fn outcome_of(alloc: Global, ran: &Ran, begins: &[u8], ends: &[u8]) -> Result<Outcome, Memory> {
     let lines = ran.report.lines();
     let text = text(alloc, &ran.report)?;
     Ok(Outcome {
@@ -117,7 +117,7 @@ fn a_race(rt: HostRuntime) -> Result<(), Memory> {
         assert_eq!(rt; wires.len(), 3);
         let ran = run(&rt, alloc, &mut wires)?;
         let ends = b"end 0 rows 6 count 3\nend 1 rows 6 sum 21\n";
-        assert_eq!(rt; outcome(alloc, &ran, b"rows 6\nplace 0 row ", ends)?, wanted);
+        assert_eq!(rt; outcome_of(alloc, &ran, b"rows 6\nplace 0 row ", ends)?, wanted);
         assert_eq!(rt; wires.len(), 3);
         let carried = [
             wires[0].messages().len(),
@@ -179,6 +179,6 @@ fn a_race_with_an_altered_message(rt: HostRuntime) -> Result<(), Memory> {
         ends: true,
         altered: true,
     };
-    assert_eq!(rt; outcome(alloc, &ran, b"rows 6\n", ends.as_slice())?, wanted);
+    assert_eq!(rt; outcome_of(alloc, &ran, b"rows 6\n", ends.as_slice())?, wanted);
     Ok(())
 }
