@@ -8,7 +8,7 @@ use Rattle.list_facts.specs.Count.{times, total}
 use Rattle.list_facts.proofs.Count.{total-append}
 use Rattle.race_play.specs.Turns.{turns}
 
--- over so many writers from one on
+-- over a number of writers from one on
 abbrev pub tsum : (ℕ → ℕ) → ℕ → ℕ → ℕ → ℕ → ℕ
 tsum g many w zero n = 0
 tsum g many w (suc k) n = total g (turns w many n) + tsum g many (suc w) k n

@@ -10,11 +10,13 @@ use Rattle.wire_line.specs.declared.message.Message.{Message}
 use Rattle.race_play.specs.Questions.{Gave, rounds_of}
 
 -- the first wires carried these messages, a list each, and the other wires are as they were
-abbrev pub WentEach : {W : Type 0} → (W → Option (List Message)) → (W → ℕ) → (W → List Message → W → Type 0) → List (List Message) → List W → List W → Type 0
+abbrev pub WentEach : {W : Type 0} → (W → Option (List Message)) → (W → ℕ) → (W → List Message → W → Type 0)
+    → List (List Message) → List W → List W → Type 0
 WentEach told alterations passes [] vs ws = ws ≡ vs
 WentEach told alterations passes (ms ∷ sent) [] ws = ⊥
 WentEach told alterations passes (ms ∷ sent) (v ∷ vs) [] = ⊥
-WentEach told alterations passes (ms ∷ sent) (v ∷ vs) (w ∷ ws) = Went told alterations passes v ms w × WentEach told alterations passes sent vs ws
+WentEach told alterations passes (ms ∷ sent) (v ∷ vs) (w ∷ ws) =
+    Went told alterations passes v ms w × WentEach told alterations passes sent vs ws
 
 -- the askers from one on: the messages of each one's rounds over an order, and their lines, those of one asker after those of another
 abbrev pub AreAsked : Widths → List Query → Seed → ℕ → List (Row × Seed) → ℕ → List (List Message) → List Line → Type 0

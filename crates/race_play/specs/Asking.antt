@@ -22,18 +22,22 @@ pub record CanAsk (t : TableView) (queries : List Query) (crew : Crew) (p : Pass
 
 -- the rounds of an asker, with its pass and its wire before and after
 pub record AsksOne {W : Type 0} (told : W → Option (List Message)) (alterations : W → ℕ) (passes : W → List Message → W → Type 0)
-    (t : TableView) (queries : List Query) (master : Seed) (crew : Crew) (asker : ℕ) (p q : PassView) (v w : W) (result : Result (List Line) Memory) : Type 0 where
+    (t : TableView) (queries : List Query) (master : Seed) (crew : Crew) (asker : ℕ)
+    (p q : PassView) (v w : W) (result : Result (List Line) Memory) : Type 0 where
   pub of : IsOf t q
   pub grows : Grows p q
   pub own : q.sight ≡ record p.sight { order = q.sight.order }
-  pub asked : (ms : List Message) × Went told alterations passes v ms w × IfOk result (Gave t.widths q.sight.order 0 (rounds_of queries master asker crew.rounds) ms)
+  pub asked : (ms : List Message) × Went told alterations passes v ms w
+      × IfOk result (Gave t.widths q.sight.order 0 (rounds_of queries master asker crew.rounds) ms)
 
 -- the askers from one on, with the pass from which theirs were split and into which they were gathered, and their wires
 pub record AsksAll {W : Type 0} (told : W → Option (List Message)) (alterations : W → ℕ) (passes : W → List Message → W → Type 0)
-    (t : TableView) (queries : List Query) (master : Seed) (crew : Crew) (asker : ℕ) (p q : PassView) (vs ws : List W) (result : Result (List Line) Memory) : Type 0 where
+    (t : TableView) (queries : List Query) (master : Seed) (crew : Crew) (asker : ℕ)
+    (p q : PassView) (vs ws : List W) (result : Result (List Line) Memory) : Type 0 where
   pub of : IsOf t q
   pub grows : Grows p q
   pub own : q.sight.own ≡ []
   pub room : p.sight.room ≤ q.sight.room
-  pub asked : (sent : List (List Message)) × WentEach told alterations passes sent vs ws × IfOk result (AreAsked t.widths queries master crew.rounds q.sight.order asker sent)
+  pub asked : (sent : List (List Message)) × WentEach told alterations passes sent vs ws
+      × IfOk result (AreAsked t.widths queries master crew.rounds q.sight.order asker sent)
       × (length sent + asker ≡ crew.askers)

@@ -26,7 +26,8 @@ all_places (places ∷ more) = places ++ all_places more
 abbrev pub HaveWritten : List Row → Seed → ℕ → List (Row × Seed) → ℕ → List (List ℕ) → Type 0
 HaveWritten rows master writers order w [] = ⊤
 HaveWritten rows master writers order w (places ∷ more) =
-    AreEntries rows master w order (turns w writers (length rows)) places × IsRising 0 places × HaveWritten rows master writers order (suc w) more
+    AreEntries rows master w order (turns w writers (length rows)) places × IsRising 0 places
+    × HaveWritten rows master writers order (suc w) more
 
 -- what is known once all passes are gathered: each writer's rows stand at its places, which rise; no place is in two writers' lists; and
 -- the order is no longer than there are rows

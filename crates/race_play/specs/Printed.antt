@@ -8,8 +8,8 @@ use Rattle.report_lines.specs.declared.lines.Line.TheVariants as lines
 abbrev pub At : List ℕ → ℕ → ℕ → Type 0
 At order place i = slice_get order place ≡ Some i
 
--- an order of n input rows that so many writers may come to: each row stands in it once; and of two rows of one writer, those i and j
--- with the same remainder, the one that was read first stands first
+-- an order of n input rows that this number of writers may come to: each row stands in it once; and of two rows of one writer, those
+-- i and j with the same remainder, the one that was read first stands first
 pub record IsOrder (n writers : ℕ) (order : List ℕ) : Type 0 where
   pub long : length order ≡ n
   pub once : (i : ℕ) → i < n → times i order ≡ 1
@@ -23,7 +23,8 @@ pub record IsPast (writers w : ℕ) (order : List ℕ) (past : ℕ) : Type 0 whe
 -- a writer's line: Back, with at least its own rows and at most all; or BackAgain, where a server lacked a place below 1 plus the writer's
 -- last one, at which another writer's row stands
 abbrev pub IsBackLine : ℕ → ℕ → List ℕ → ℕ → Line → Type 0
-IsBackLine n writers order w (lines.Back writer rows) = (writer ≡ w) × ((past : ℕ) × IsPast writers w order past × (past ≤ rows)) × (rows ≤ n)
+IsBackLine n writers order w (lines.Back writer rows) =
+    (writer ≡ w) × ((past : ℕ) × IsPast writers w order past × (past ≤ rows)) × (rows ≤ n)
 IsBackLine n writers order w (lines.BackAgain writer server had floor) =
     (writer ≡ w) × (server < 3) × IsPast writers w order floor × (had < floor) × ((i : ℕ) × At order had i × ¬ (i % writers ≡ w))
 IsBackLine n writers order w line = ⊥

@@ -72,7 +72,8 @@ AreAnswers w order low [] [] (line ∷ said) high = ⊥
 AreAnswers w order low [] (t ∷ told) said high = ⊥
 AreAnswers w order low (x ∷ xs) [] said high = ⊥
 AreAnswers w order low (x ∷ xs) (t ∷ told) [] high = ⊥
-AreAnswers w order low (x ∷ xs) (t ∷ told) (line ∷ said) high = (low ≤ t.rows) × IsAnswer w order x t line × AreAnswers w order t.rows xs told said high
+AreAnswers w order low (x ∷ xs) (t ∷ told) (line ∷ said) high =
+    (low ≤ t.rows) × IsAnswer w order x t line × AreAnswers w order t.rows xs told said high
 
 -- all messages, in order
 abbrev pub messages_of : List Told → List Message
@@ -80,7 +81,8 @@ messages_of [] = []
 messages_of (t ∷ told) = t.messages ++ messages_of told
 
 -- the questions were answered by these messages and with these lines, each over at least `low` rows
-pub record Gave (w : Widths) (order : List (Row × Seed)) (low : ℕ) (xs : List Question) (ms : List Message) (said : List Line) : Type 0 where
+pub record Gave (w : Widths) (order : List (Row × Seed)) (low : ℕ) (xs : List Question) (ms : List Message)
+    (said : List Line) : Type 0 where
   pub told : List Told
   pub high : ℕ
   pub answers : AreAnswers w order low xs told said high

@@ -16,8 +16,8 @@ pub record HasFirst (n : ℕ) (p : PassView) : Type 0 where
   pub one : n ≤ prefix p.one.seen
   pub two : n ≤ prefix p.two.seen
 
--- an order of all rows, which is that of the pass, whose servers have them all, with no room but for what no row needs; a line for each writer over it; and the lines of the askers,
--- with their messages
+-- An order of all rows, which is that of the pass; the servers have all of them; no room is left but what no row needs. Then a line for
+-- each writer over that order, and the lines of the askers, with their messages.
 pub record IsRaced (s : Setting) (p : PassView) (sent : List (List Message)) (r : Raced) : Type 0 where
   pub places : List (List ℕ)
   pub stands : Stands s.rows s.master s.writers p.sight.order places r.order.items

@@ -20,7 +20,8 @@ IsPlainLine w q who query line = line ≡ lines.Answer who q.floor query.aggrega
 
 -- three servers agreed on the rows of the new floor, a query over them was carried, and the line is what the check says of the pair; it is
 -- the plain one where each message was received as it was sent
-pub record Asks (w : Widths) (p q : PassView) (who : Who) (query : Query) (seed : Seed) (ms : List Message) (pair : OpenedPair) (line : Line) : Type 0 where
+pub record Asks (w : Widths) (p q : PassView) (who : Who) (query : Query) (seed : Seed)
+    (ms : List Message) (pair : OpenedPair) (line : Line) : Type 0 where
   pub agrees : Agrees w p q (rows_of w q)
   pub opens : Opens (rows_of w q) query seed ms pair
   pub says : line ≡ answer_line who q.floor query.aggregate (judged query seed pair)

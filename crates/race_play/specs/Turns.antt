@@ -1,7 +1,7 @@
 -- Whose turn an input row is, and places in rising order.
 use Rattle.std.specs.Prelude.{ℕ, zero, suc, ◌+◌, ◌%◌, ◌≤◌, ◌==◌, ⊤, if◌then◌else◌, List, [], ◌∷◌, ◌++◌}
 
--- the rows below n that one of so many writers writes, in order: those i with `i mod writers = writer`
+-- the rows below n that a writer writes, in order: those i with `i mod writers = writer`
 abbrev pub turns : ℕ → ℕ → ℕ → List ℕ
 turns writer writers zero = []
 turns writer writers (suc n) = turns writer writers n ++ (if n % writers == writer then n ∷ [] else [])

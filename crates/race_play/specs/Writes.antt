@@ -21,7 +21,8 @@ abbrev pub AreEntries : List Row → Seed → ℕ → List (Row × Seed) → Lis
 AreEntries rows master writer order [] [] = ⊤
 AreEntries rows master writer order [] (place ∷ places) = ⊥
 AreEntries rows master writer order (i ∷ is) [] = ⊥
-AreEntries rows master writer order (i ∷ is) (place ∷ places) = IsEntry rows master writer order i place × AreEntries rows master writer order is places
+AreEntries rows master writer order (i ∷ is) (place ∷ places) =
+    IsEntry rows master writer order i place × AreEntries rows master writer order is places
 
 -- the three servers have a place, as the pass has seen
 pub record IsThere (p : PassView) (place : ℕ) : Type 0 where
@@ -50,13 +51,15 @@ pub record Wrote (rows : List Row) (master : Seed) (writer : ℕ) (is : List ℕ
 -- the line of an agreement after that: Back with the pass's floor, the least prefix of the three seen journals; or BackAgain, of a server
 -- that lacked a row below the floor
 abbrev pub IsBack : ℕ → PassView → PassView → Line → Type 0
-IsBack writer p q (lines.Back w n) = (w ≡ writer) × (n ≡ q.floor) × (p.floor ≤ n) × (n ≡ min (min (prefix q.zero.seen) (prefix q.one.seen)) (prefix q.two.seen))
+IsBack writer p q (lines.Back w n) =
+    (w ≡ writer) × (n ≡ q.floor) × (p.floor ≤ n) × (n ≡ min (min (prefix q.zero.seen) (prefix q.one.seen)) (prefix q.two.seen))
     × ((k : ℕ) → k ≤ 2 → (seat_of k q).looks ≡ (seat_of k p).looks + 1)
 IsBack writer p q (lines.BackAgain w k had floor) = (w ≡ writer) × (q.floor ≡ p.floor) × Lacks p q k had floor
 IsBack writer p q line = ⊥
 
 -- a writer wrote its rows and agreed once, with the pass as it was in between
-pub record Wrote_back (rows : List Row) (master : Seed) (writer : ℕ) (is : List ℕ) (p : PassView) (places : List ℕ) (line : Line) (q : PassView) : Type 0 where
+pub record Wrote_back (rows : List Row) (master : Seed) (writer : ℕ) (is : List ℕ) (p : PassView)
+    (places : List ℕ) (line : Line) (q : PassView) : Type 0 where
   pub between : PassView
   pub wrote : Wrote rows master writer is p places between
   pub sight : q.sight.own ≡ between.sight.own

@@ -22,7 +22,8 @@ use std::thread::Threads;
 use waldo_table::{Pass, Table};
 use wire_line::Wire;
 
-/// The rounds of an asker, one after another: in each the next query, and behind the last the first again.
+/// The rounds of an asker, one after another: in each the next query, and behind the last the first again. The only error is out
+/// of memory.
 pub(crate) fn ask_rounds<R: Threads + Wait + Sync, W: Wire, G: Gate>(
     rt: &R,
     alloc: Global,
@@ -36,7 +37,8 @@ pub(crate) fn ask_rounds<R: Threads + Wait + Sync, W: Wire, G: Gate>(
     wire: &mut W,
 ) -> Result<Said, Memory>
     requires { CanAsk table.now queries.now crew.now pass.old }
-    ensures { AsksOne W.told W.alterations W.passes table.now queries.now master.now crew.now asker pass.old pass.new wire.old wire.new result }
+    ensures { AsksOne W.told W.alterations W.passes table.now queries.now master.now crew.now asker
+        pass.old pass.new wire.old wire.new result }
 {
     let mut said = Said::new(alloc);
     for round in 0..crew.rounds {
@@ -59,7 +61,7 @@ pub(crate) fn ask_rounds<R: Threads + Wait + Sync, W: Wire, G: Gate>(
     Ok(said)
 }
 
-/// Each query once, over all rows, of which there are so many.
+/// Asks each query once over all rows, of which there are `rows`. The only error is out of memory.
 pub(crate) fn ask_ends<R: Threads + Wait + Sync, W: Wire>(
     rt: &R,
     alloc: Global,

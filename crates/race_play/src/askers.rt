@@ -18,7 +18,7 @@ use waldo_table::{Pass, Table};
 use wire_line::Wire;
 
 /// The rounds of the askers from one on, each over a wire of its own: of the first asker over the first wire. Each asker's pass is split
-/// off this one before it asks, and gathered again once all have ended.
+/// off this one before it asks, and gathered again once all have ended. The only error is out of memory.
 #[cycle(askers)]
 pub(crate) fn race_askers<R: Threads + Wait + Sync, W: Wire + Send, G: Gate + Sync>(
     rt: &R,
@@ -35,7 +35,8 @@ pub(crate) fn race_askers<R: Threads + Wait + Sync, W: Wire + Send, G: Gate + Sy
     requires can { CanAsk table.now queries.now crew.now pass.old }
     requires asker { asker ≤ crew.now.askers }
     requires wires { crew.now.askers ≤ asker + length wires.old }
-    ensures { AsksAll W.told W.alterations W.passes table.now queries.now master.now crew.now asker pass.old pass.new wires.old wires.new result }
+    ensures { AsksAll W.told W.alterations W.passes table.now queries.now master.now crew.now asker
+        pass.old pass.new wires.old wires.new result }
 {
     if asker == crew.askers {
         return Ok(Said::new(alloc));
@@ -71,12 +72,15 @@ fn ask_beside<R: Threads + Wait + Sync, W: Wire + Send, G: Gate + Sync>(
     requires can { CanAsk table.now queries.now crew.now pass.old }
     requires asker { asker < crew.now.askers }
     requires wires { crew.now.askers ≤ asker + 1 + length rest.old }
-    ensures one { AsksOne W.told W.alterations W.passes table.now queries.now master.now crew.now asker mine.old mine.new wire.old wire.new result.0 }
-    ensures others { AsksAll W.told W.alterations W.passes table.now queries.now master.now crew.now (asker + 1) pass.old pass.new rest.old rest.new result.1 }
+    ensures one { AsksOne W.told W.alterations W.passes table.now queries.now master.now crew.now asker
+        mine.old mine.new wire.old wire.new result.0 }
+    ensures others { AsksAll W.told W.alterations W.passes table.now queries.now master.now crew.now (asker + 1)
+        pass.old pass.new rest.old rest.new result.1 }
 {
     let mut first = || -> Result<Said, Memory>
         requires { IsSync R.row × IsSync G.row × IsSend W.row × CanAsk table.now queries.now crew.now mine.now }
-        ensures { AsksOne W.told W.alterations W.passes table.entry.now queries.entry.now master.entry.now crew.entry.now asker mine.entry.now mine.exit.now wire.entry.now wire.exit.now result }
+        ensures { AsksOne W.told W.alterations W.passes table.entry.now queries.entry.now master.entry.now crew.entry.now asker
+            mine.entry.now mine.exit.now wire.entry.now wire.exit.now result }
     {
         ask_rounds(
             rt, alloc, table, queries, master, crew, asker, gate, mine, wire,
@@ -84,8 +88,10 @@ fn ask_beside<R: Threads + Wait + Sync, W: Wire + Send, G: Gate + Sync>(
     };
     let next = asker + 1;
     let mut others = || -> Result<Said, Memory>
-        requires { IsSync R.row × IsSync G.row × IsSend W.row × CanAsk table.now queries.now crew.now pass.now × (next ≤ crew.now.askers) × (crew.now.askers ≤ next + length rest.now) }
-        ensures { AsksAll W.told W.alterations W.passes table.entry.now queries.entry.now master.entry.now crew.entry.now next pass.entry.now pass.exit.now rest.entry.now rest.exit.now result }
+        requires { IsSync R.row × IsSync G.row × IsSend W.row × CanAsk table.now queries.now crew.now pass.now
+            × (next ≤ crew.now.askers) × (crew.now.askers ≤ next + length rest.now) }
+        ensures { AsksAll W.told W.alterations W.passes table.entry.now queries.entry.now master.entry.now crew.entry.now next
+            pass.entry.now pass.exit.now rest.entry.now rest.exit.now result }
     {
         race_askers(
             rt, alloc, table, queries, master, crew, next, gate, pass, rest,
@@ -94,7 +100,7 @@ fn ask_beside<R: Threads + Wait + Sync, W: Wire + Send, G: Gate + Sync>(
     join_mut(rt, &mut first, &mut others)
 }
 
-// The lines of an asker, and those of others behind them.
+// The lines of an asker, and behind them those of other askers.
 fn joined(first: Result<Said, Memory>, others: Result<Said, Memory>) -> Result<Said, Memory>
     ensures { IfOk result (λ said. (own : List Line) × (more : List Line) × (first ≡ Ok own) × (others ≡ Ok more) × (said ≡ own ++ more)) }
 {

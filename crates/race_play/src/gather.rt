@@ -17,7 +17,7 @@ use std::alloc::Global;
 use table_schema::Row;
 use waldo_table::{Pass, Table};
 
-/// Where the writers' rows are, writer by writer, and their lines.
+/// The places of the writers' rows, a list for each writer, and a line for each.
 #[derive(Drop)]
 pub struct Gathered {
     pub places: Vec<Vec<u64>>,
@@ -59,7 +59,7 @@ fn take_in(
     Ok(())
 }
 
-/// Takes in all jobs, those of writers 0, 1 and so on.
+/// Takes in all jobs, those of writers 0, 1 and so on, and their passes. The only error is out of memory, also of a job.
 pub fn gather_all(
     alloc: Global,
     table: &Table,

@@ -14,7 +14,8 @@ use std::thread::Threads;
 use table_schema::Row;
 use waldo_table::{Pass, Table};
 
-/// A writer with its pass, and what it wrote once its thread has run; nothing, for want of memory.
+/// A writer with its number and its pass, and what it wrote once its thread has run. `written` is None until then, and stays None
+/// where the thread was out of memory.
 #[derive(Drop)]
 pub struct WriterJob {
     pub number: u8,
@@ -22,7 +23,7 @@ pub struct WriterJob {
     pub written: Option<Written>,
 }
 
-// One job.
+// Does one job.
 fn work<R: Wait, G: Gate>(
     rt: &R,
     alloc: Global,
@@ -48,7 +49,7 @@ fn work<R: Wait, G: Gate>(
     pass.floor();
 }
 
-/// Each job in a thread of its own.
+/// Does each job in a thread of its own, and waits for all.
 pub fn run_writers<R: Threads + Wait + Sync, G: Gate + Sync>(
     rt: &R,
     alloc: Global,
@@ -63,7 +64,8 @@ pub fn run_writers<R: Threads + Wait + Sync, G: Gate + Sync>(
     requires few { length rows.now ≤ 65536 }
     requires ready { All (IsReady table.now (length rows.now) writers) jobs.old }
     ensures done { All (IsDone table.now rows.now master.now writers) jobs.new }
-    ensures numbers { (i : ℕ) (d : WriterJob) → i < length jobs.old → (slice_index_or jobs.new i d).number ≡ (slice_index_or jobs.old i d).number }
+    ensures numbers { (i : ℕ) (d : WriterJob) → i < length jobs.old
+        → (slice_index_or jobs.new i d).number ≡ (slice_index_or jobs.old i d).number }
     ensures long { length jobs.new ≡ length jobs.old }
 {
     thread::for_each_mut(

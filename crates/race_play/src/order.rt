@@ -24,7 +24,7 @@ fn push_turn(list: &mut Vec<u64>, i: usize, writer: u8, writers: u8) -> Result<(
     Ok(())
 }
 
-// The rows that a writer writes, of so many.
+// The numbers of the input rows that a writer writes, rising; there are `rows` in all.
 pub(crate) fn turns_of(
     alloc: Global,
     rows: usize,
@@ -52,7 +52,7 @@ fn fill(printed: &mut Vec<u64>, rows: &[u64], places: &[u64])
     }
 }
 
-/// Which row stands at each place, by what the writers wrote.
+/// The number of the input row at each place, by what the writers wrote. The only error is out of memory.
 pub fn printed(
     alloc: Global,
     rows: &[Row],

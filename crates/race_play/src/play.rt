@@ -21,8 +21,10 @@ use wire_line::Wire;
 
 /// Writers append the rows and askers ask the queries at once, on one table, each in a thread of its own; and once all have ended, each
 /// query is asked over all rows. Asker a asks over wire a, and the last queries go over the first wire; other wires are as they were.
-/// No order of the threads in time is promised; `Reports` says what the report is. Waits for the threads. Out of memory, there is no
-/// report, and messages may have been carried.
+/// No order of the threads in time is promised; `Reports` says what the report is. The call waits for the threads.
+///
+/// `altered` tells of an answer that the check refused, in a round or at the end. The only error is out of memory: there is no report
+/// then, and messages may have been carried.
 pub fn race<R: Threads + Wait + Sync, W: Wire + Send, G: Gate + Sync>(
     rt: &R,
     alloc: Global,
@@ -34,7 +36,8 @@ pub fn race<R: Threads + Wait + Sync, W: Wire + Send, G: Gate + Sync>(
     requires some { 0 < race.now.crew.workers }
     requires wires { race.now.crew.askers ≤ length wires.old.items }
     ensures wires { length wires.new.items ≡ length wires.old.items }
-    ensures reports { IfOk result (λ r. (sent : List (List Message)) × WentEach W.told W.alterations W.passes sent wires.old.items wires.new.items
+    ensures reports { IfOk result (λ r. (sent : List (List Message))
+        × WentEach W.told W.alterations W.passes sent wires.old.items wires.new.items
         × Reports (setting_of race.now) sent r.report) }
     ensures altered { IfOk result (λ r. r.altered ≡ list_any is_altered r.report) }
     ensures accepted { ¬ SomeRose W.alterations wires.old.items wires.new.items → IfOk result (λ r. r.altered ≡ false) }

@@ -10,7 +10,7 @@ use report_lines::{Line, Report};
 use ring128::Memory;
 use std::alloc::Global;
 
-/// What a race came to: a report, and whether the check refused what some answer opened.
+/// What a race came to: a report, and whether the check refused the pair that some query opened.
 #[derive(Drop)]
 pub struct Ran {
     pub report: Report,
@@ -60,8 +60,10 @@ fn any_altered(lines: &[Line]) -> bool
 }
 
 /// The lines of a race: how many rows there are, the place of each, the writers' lines, the askers', and those of the last queries.
+/// The only error is out of memory.
 pub(crate) fn report_of(alloc: Global, raced: Raced, ends: Said) -> Result<Ran, Memory>
-    ensures text { IfOk result (λ r. r.report ≡ lines.Rows (length raced.order.items) ∷ place_lines 0 raced.order.items ++ raced.backs.items ++ raced.asks ++ ends) }
+    ensures text { IfOk result (λ r. r.report ≡ lines.Rows (length raced.order.items)
+        ∷ place_lines 0 raced.order.items ++ raced.backs.items ++ raced.asks ++ ends) }
     ensures altered { IfOk result (λ r. r.altered ≡ list_any is_altered r.report) }
 {
     let mut report = Report::new(alloc);

@@ -22,7 +22,7 @@ use std::thread::Threads;
 use waldo_table::{Pass, Table};
 use wire_line::Wire;
 
-/// Asks a query, with its seed, over the rows that the three servers have.
+/// Asks a query, with its seed, over the rows that the three servers have. The only error is out of memory.
 pub(crate) fn ask_line<R: Threads + Wait + Sync, W: Wire>(
     rt: &R,
     alloc: Global,
@@ -44,13 +44,19 @@ pub(crate) fn ask_line<R: Threads + Wait + Sync, W: Wire>(
     ensures covered { IfOk result (λ _. IsCovered pass.new) }
     ensures asks { (ms : List Message) × (pair : OpenedPair) × Went W.told W.alterations W.passes wire.old ms wire.new
         × IfOk result (Asks table.now.widths pass.old pass.new who query.now seed.now ms pair) }
-    ensures plain { ¬ Rose (W.alterations wire.old) (W.alterations wire.new) → IfOk result (IsPlainLine table.now.widths pass.new who query.now) }
+    ensures plain { ¬ Rose (W.alterations wire.old) (W.alterations wire.new)
+        → IfOk result (IsPlainLine table.now.widths pass.new who query.now) }
 {
     let asked = table.ask(rt, alloc, pass, query, seed, wire, workers);
     line_of_ask(who, pass.floor(), query.aggregate, asked)
 }
 
-/// Asks a query over the rows that the three servers have, and passes the gate.
+/// A round of an asker: agrees on the first rows that all three servers have, asks the query over them with the seed of this asker and
+/// round, both from 0, and passes the gate. Each server's rows are shared among `workers` threads, at least one.
+///
+/// The line has the answer, or, where the check refuses it, the pair that the messages opened. The pass is one that never meets
+/// `Again`: it has seen as many rows at each server as its floor says, as a pass has that was told nothing and appended nothing. So
+/// the only error is out of memory, after which messages may have been carried.
 pub fn ask_round<R: Threads + Wait + Sync, W: Wire, G: Gate>(
     rt: &R,
     alloc: Global,
@@ -73,8 +79,10 @@ pub fn ask_round<R: Threads + Wait + Sync, W: Wire, G: Gate>(
     ensures own { pass.new.sight ≡ record pass.old.sight { order = pass.new.sight.order } }
     ensures covered { IfOk result (λ _. IsCovered pass.new) }
     ensures asks { (ms : List Message) × (pair : OpenedPair) × Went W.told W.alterations W.passes wire.old ms wire.new
-        × IfOk result (Asks table.now.widths pass.old pass.new (who.Round asker round) query.now (derive_of master.now 2 asker round) ms pair) }
-    ensures plain { ¬ Rose (W.alterations wire.old) (W.alterations wire.new) → IfOk result (IsPlainLine table.now.widths pass.new (who.Round asker round) query.now) }
+        × IfOk result (Asks table.now.widths pass.old pass.new (who.Round asker round) query.now
+            (derive_of master.now 2 asker round) ms pair) }
+    ensures plain { ¬ Rose (W.alterations wire.old) (W.alterations wire.new)
+        → IfOk result (IsPlainLine table.now.widths pass.new (who.Round asker round) query.now) }
 {
     let seed = derive(master, 2, u16::from(asker), u64::from(round));
     let who = Who::Round {

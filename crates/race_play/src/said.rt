@@ -31,7 +31,7 @@ impl Said {
         }
     }
 
-    /// Puts a line behind the others.
+    /// Puts a line behind the others. The only error is out of memory.
     pub fn push(&mut self, line: Line) -> Result<(), Memory>
         ensures { OnOk result (self.new ≡ self.old ++ line ∷ []) }
     {
@@ -39,7 +39,7 @@ impl Said {
         Ok(())
     }
 
-    /// Puts other lines behind these.
+    /// Puts other lines behind these. The only error is out of memory.
     pub fn push_all(&mut self, more: Said) -> Result<(), Memory>
         ensures { OnOk result (self.new ≡ self.old ++ more) }
     {

@@ -27,7 +27,7 @@ use table_schema::Row;
 use waldo_table::{Pass, Table};
 use wire_line::Wire;
 
-/// A job for each writer, with room for its rows.
+/// A job for each writer, with room for its rows. The only error is out of memory.
 fn split_jobs(
     alloc: Global,
     table: &Table,
@@ -106,12 +106,14 @@ fn run_both<R: Threads + Wait + Sync, W: Wire + Send, G: Gate + Sync>(
     requires can { CanAsk table.now race.now.queries.now race.now.crew pass.old }
     requires wires { race.now.crew.askers ≤ length wires.old }
     ensures done { AllDone table.now race.now.rows.now race.now.master race.now.crew.writers jobs.old.items jobs.new.items }
-    ensures asked { AsksAll W.told W.alterations W.passes table.now race.now.queries.now race.now.master race.now.crew 0 pass.old pass.new wires.old wires.new result }
+    ensures asked { AsksAll W.told W.alterations W.passes table.now race.now.queries.now race.now.master race.now.crew 0
+        pass.old pass.new wires.old wires.new result }
 {
     let mut write = ||
         requires { IsSync R.row × IsSync G.row × All (Holds table.now.widths) race.now.rows.now × (length race.now.rows.now ≤ 65536)
             × All (IsReady table.now (length race.now.rows.now) race.now.crew.writers) jobs.now.items }
-        ensures { AllDone table.entry.now race.entry.now.rows.now race.entry.now.master race.entry.now.crew.writers jobs.entry.now.items jobs.exit.now.items }
+        ensures { AllDone table.entry.now race.entry.now.rows.now race.entry.now.master race.entry.now.crew.writers
+            jobs.entry.now.items jobs.exit.now.items }
     {
         run_all(
             rt,
@@ -125,8 +127,10 @@ fn run_both<R: Threads + Wait + Sync, W: Wire + Send, G: Gate + Sync>(
         )
     };
     let mut ask = || -> Result<Said, Memory>
-        requires { IsSync R.row × IsSync G.row × IsSend W.row × CanAsk table.now race.now.queries.now race.now.crew pass.now × (race.now.crew.askers ≤ length wires.now) }
-        ensures { AsksAll W.told W.alterations W.passes table.entry.now race.entry.now.queries.now race.entry.now.master race.entry.now.crew 0 pass.entry.now pass.exit.now wires.entry.now wires.exit.now result }
+        requires { IsSync R.row × IsSync G.row × IsSend W.row × CanAsk table.now race.now.queries.now race.now.crew pass.now
+            × (race.now.crew.askers ≤ length wires.now) }
+        ensures { AsksAll W.told W.alterations W.passes table.entry.now race.entry.now.queries.now race.entry.now.master
+            race.entry.now.crew 0 pass.entry.now pass.exit.now wires.entry.now wires.exit.now result }
     {
         race_askers(
             rt,
@@ -145,7 +149,7 @@ fn run_both<R: Threads + Wait + Sync, W: Wire + Send, G: Gate + Sync>(
     said
 }
 
-/// Which row stands at each place, the writers' lines, and the askers' lines.
+/// The number of the input row at each place, the writers' lines, and the askers' lines.
 #[derive(Drop)]
 pub struct Raced {
     pub order: Vec<u64>,
@@ -153,7 +157,7 @@ pub struct Raced {
     pub asks: Said,
 }
 
-/// All writers and askers at once, with passes that are split off this one and gathered into it.
+/// All writers and askers at once, with passes that are split off this one and gathered into it. The only error is out of memory.
 pub(crate) fn race_all<R: Threads + Wait + Sync, W: Wire + Send, G: Gate + Sync>(
     rt: &R,
     alloc: Global,
@@ -172,7 +176,8 @@ pub(crate) fn race_all<R: Threads + Wait + Sync, W: Wire + Send, G: Gate + Sync>
     requires room { length race.now.rows.now ≤ table.now.book.capacity }
     requires wires { race.now.crew.askers ≤ length wires.old }
     ensures pass { IsOf table.now pass.new }
-    ensures raced { (sent : List (List Message)) × WentEach W.told W.alterations W.passes sent wires.old wires.new × IfOk result (IsRaced (setting_of race.now) pass.new sent) }
+    ensures raced { (sent : List (List Message)) × WentEach W.told W.alterations W.passes sent wires.old wires.new
+        × IfOk result (IsRaced (setting_of race.now) pass.new sent) }
 {
     let mut jobs = split_jobs(alloc, table, pass, race.rows.len(), race.crew.writers)?;
     let mut mine = table.split_pass(pass, 0);

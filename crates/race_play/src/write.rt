@@ -8,7 +8,7 @@ ghost use Rattle.race_play.specs.Turns.{turns};
 ghost use Rattle.race_play.specs.Writes.{IsBack, Wrote, Wrote_back};
 
 use crate::gate::{Gate, Point};
-use crate::lines::line_of_fault;
+use crate::lines::line_of_back;
 use crate::places::Places;
 use prg_chacha::{Seed, derive};
 use report_lines::Line;
@@ -18,7 +18,8 @@ use std::sync::Wait;
 use table_schema::Row;
 use waldo_table::{Pass, Table, finish, prepare};
 
-/// Where a writer's rows are, in order, and the line of its agreement.
+/// The places of a writer's rows in the table's order, from 0, in the order in which they were written; and the line of the agreement
+/// after them, `Back` or `BackAgain`.
 #[derive(Drop)]
 pub struct Written {
     pub places: Places,
@@ -82,7 +83,8 @@ fn write_turn<R: Wait, G: Gate>(
     requires room { i % writers ≡ writer → 0 < pass.old.sight.room }
     ensures pass { IsOf table.now pass.new }
     ensures grows { Grows pass.old pass.new }
-    ensures wrote { OnOk result ((p : PassView) → Grows p pass.old → Wrote rows.now master.now writer (turns writer writers i) p places.old.items pass.old
+    ensures wrote { OnOk result ((p : PassView) → Grows p pass.old
+        → Wrote rows.now master.now writer (turns writer writers i) p places.old.items pass.old
         → Wrote rows.now master.now writer (turns writer writers (i + 1)) p places.new.items pass.new) }
 {
     if i % writers as usize != writer as usize {
@@ -114,7 +116,8 @@ fn write_all<R: Wait, G: Gate>(
     requires room { length (turns writer writers (length rows.now)) ≤ pass.old.sight.room }
     ensures pass { IsOf table.now pass.new }
     ensures grows { Grows pass.old pass.new }
-    ensures wrote { IfOk result (λ places. Wrote rows.now master.now writer (turns writer writers (length rows.now)) pass.old places.items pass.new) }
+    ensures wrote { IfOk result (λ places. Wrote rows.now master.now writer (turns writer writers (length rows.now))
+        pass.old places.items pass.new) }
 {
     let mut places = Vec::new(alloc);
     for i in 0..rows.len() {
@@ -151,18 +154,18 @@ fn agree_back<R: Wait, G: Gate>(
     ensures room { pass.new.sight.room ≡ pass.old.sight.room }
     ensures back { IfOk result (IsBack writer pass.old pass.new) }
 {
-    let line = match table.agree(rt, alloc, pass) {
-        Ok(agreed) => Line::Back {
-            writer,
-            rows: agreed.rows(),
-        },
-        Err(fault) => line_of_fault(writer, fault)?,
-    };
+    let line = line_of_back(writer, table.agree(rt, alloc, pass))?;
     gate.pass(Point::AfterBack { writer });
     Ok(line)
 }
 
-/// Appends a writer's rows, those i of all with `i mod writers = writer`, in order, and then agrees once.
+/// Appends a writer's rows, those i of all with `i mod writers = writer`, in order, and then agrees once. `rows` are all input rows, and
+/// the pass has room for the writer's own. A row is split by the seed of its writer and its number. The gate is passed after each draw
+/// and after the agreement.
+///
+/// The line is `Back` with the number of rows that were agreed on, or `BackAgain` with a server that lacked a row below the pass's
+/// floor, which is one another writer has drawn and not yet placed there. The only error is out of memory; rows that were appended
+/// by then stay in the table.
 pub fn write_rows<R: Wait, G: Gate>(
     rt: &R,
     alloc: Global,
@@ -181,7 +184,8 @@ pub fn write_rows<R: Wait, G: Gate>(
     requires room { length (turns writer writers (length rows.now)) ≤ pass.old.sight.room }
     ensures pass { IsOf table.now pass.new }
     ensures grows { Grows pass.old pass.new }
-    ensures wrote { IfOk result (λ w. Wrote_back rows.now master.now writer (turns writer writers (length rows.now)) pass.old w.places w.line pass.new) }
+    ensures wrote { IfOk result (λ w. Wrote_back rows.now master.now writer (turns writer writers (length rows.now))
+        pass.old w.places w.line pass.new) }
 {
     let places = write_all(rt, alloc, table, pass, rows, writer, writers, master, gate)?;
     let line = agree_back(rt, alloc, table, pass, writer, gate)?;

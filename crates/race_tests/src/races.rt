@@ -1,0 +1,184 @@
+// Two writers and two askers at once, whose last answers are the same whatever the schedule.
+ghost use Rattle.std.specs.Prelude.{◌≡◌, ◌≤◌, length};
+
+use crate::calls::{WIDTHS, master, query, row};
+use prg_chacha::derive;
+use query_plan::make_keys;
+use race_play::{Crew, OpenGate, Race, Ran, race};
+use report_lines::{Line, Report, Who, text};
+use ring128::{Memory, mul};
+use std::alloc::Global;
+use std::process::Abort;
+use std::sync::Wait;
+use std::thread::Threads;
+use table_schema::Aggregate;
+use wire_line::{RecordWire, Shift, ShiftWire, Shifts, StraightWire, Wire};
+
+// Two rounds over six rows, of which those with bucket 3 have the values 1, 4 and 16.
+fn run<R: Abort + Threads + Wait + Sync, W: Wire + Send>(
+    rt: &R,
+    alloc: Global,
+    wires: &mut Vec<W>,
+) -> Result<Ran, Memory>
+    requires { 2 ≤ length wires.old.items }
+    ensures { length wires.new.items ≡ length wires.old.items }
+{
+    let rows = [
+        row(rt, &WIDTHS, 3, 1),
+        row(rt, &WIDTHS, 1, 8),
+        row(rt, &WIDTHS, 0, 2),
+        row(rt, &WIDTHS, 3, 16),
+        row(rt, &WIDTHS, 3, 4),
+        row(rt, &WIDTHS, 2, 32),
+    ];
+    let queries = [
+        query(rt, &WIDTHS, Aggregate::Count),
+        query(rt, &WIDTHS, Aggregate::Sum),
+    ];
+    assert!(rt; WIDTHS.fits(6));
+    let crew = Crew {
+        writers: 2,
+        askers: 2,
+        rounds: 2,
+        workers: 2,
+    };
+    let setting = Race {
+        widths: WIDTHS,
+        rows: &rows,
+        queries: &queries,
+        master: master(),
+        crew,
+    };
+    race(rt, alloc, &setting, &OpenGate, wires)
+}
+
+// The rows at places 0, 1 and so on, each as a bit; 0 where a line is none of the place that it stands at.
+fn rows_of(lines: &[Line]) -> u64 {
+    let mut rows = 0;
+    for (index, line) in lines.iter().enumerate() {
+        match line {
+            Line::Place { place, row } if *place == index as u64 && *row < 6 => rows |= 1 << *row,
+            _ => return 0,
+        }
+    }
+    rows
+}
+
+// The wires of two askers, and one that belongs to none.
+fn record_wires(alloc: Global) -> Result<Vec<RecordWire>, Memory> {
+    let mut wires = Vec::new(alloc);
+    for _ in 0..3 {
+        wires.push(RecordWire::new(alloc))?;
+    }
+    Ok(wires)
+}
+
+// What is the same in each race: the number of lines; the rows that have places, each as a bit; whether the text begins and ends as
+// it must; whether the check refused an answer.
+#[derive(Clone, Copy, Debug, PartialEq, Eq)]
+struct Outcome {
+    lines: usize,
+    rows: u64,
+    begins: bool,
+    ends: bool,
+    altered: bool,
+}
+
+fn outcome_of(alloc: Global, ran: &Ran, begins: &[u8], ends: &[u8]) -> Result<Outcome, Memory> {
+    let lines = ran.report.lines();
+    let text = text(alloc, &ran.report)?;
+    Ok(Outcome {
+        lines: lines.len(),
+        rows: if lines.len() < 7 {
+            0
+        } else {
+            rows_of(&lines[1..7])
+        },
+        begins: text.starts_with(begins),
+        ends: text.ends_with(ends),
+        altered: ran.altered,
+    })
+}
+
+// A line for the number of rows, six for places, two of writers, four of rounds and two at the end. Each query has 15 messages: asker
+// 0 asks twice and at the end twice, asker 1 twice.
+#[test]
+fn a_race(rt: HostRuntime) -> Result<(), Memory> {
+    let alloc = rt.alloc();
+    let wanted = Outcome {
+        lines: 15,
+        rows: 0b11_1111,
+        begins: true,
+        ends: true,
+        altered: false,
+    };
+    for _ in 0..10 {
+        let mut wires = record_wires(alloc)?;
+        assert_eq!(rt; wires.len(), 3);
+        let ran = run(&rt, alloc, &mut wires)?;
+        let ends = b"end 0 rows 6 count 3\nend 1 rows 6 sum 21\n";
+        assert_eq!(rt; outcome_of(alloc, &ran, b"rows 6\nplace 0 row ", ends)?, wanted);
+        assert_eq!(rt; wires.len(), 3);
+        let carried = [
+            wires[0].messages().len(),
+            wires[1].messages().len(),
+            wires[2].messages().len(),
+        ];
+        assert_eq!(rt; carried, [60, 30, 0]);
+    }
+    Ok(())
+}
+
+// The wires of two askers. The first one adds 1 to the first word of message 36: behind two rounds of 15 messages each, that is the
+// message 6 of query 0 at the end, with which a server opens its share of the total.
+fn shift_wires(alloc: Global) -> Result<Vec<ShiftWire<StraightWire>>, Memory> {
+    let mut shifts = Shifts::new(alloc);
+    shifts.push(Shift {
+        message: 36,
+        word: 0,
+        amount: 1,
+    })?;
+    let mut wires = Vec::new(alloc);
+    wires.push(ShiftWire::over(alloc, StraightWire::new(), shifts))?;
+    let none = Shifts::new(alloc);
+    wires.push(ShiftWire::over(alloc, StraightWire::new(), none))?;
+    Ok(wires)
+}
+
+// The last lines where the total of query 0 is opened as 4 in place of 3, and its product with the key as it is.
+fn altered_ends<R: Abort>(rt: &R, alloc: Global) -> Result<Vec<u8>, Memory> {
+    let query = query(rt, &WIDTHS, Aggregate::Count);
+    let keys = make_keys(alloc, &query, &WIDTHS, &derive(&master(), 4, 0, 0))?;
+    let mut report = Report::new(alloc);
+    report.push(Line::Altered {
+        who: Who::End(0),
+        rows: 6,
+        total: 4,
+        weighted: mul(3, keys.key()),
+    })?;
+    report.push(Line::Answer {
+        who: Who::End(1),
+        rows: 6,
+        aggregate: Aggregate::Sum,
+        total: 21,
+    })?;
+    text(alloc, &report)
+}
+
+#[test]
+fn a_race_with_an_altered_message(rt: HostRuntime) -> Result<(), Memory> {
+    let alloc = rt.alloc();
+    let mut wires = shift_wires(alloc)?;
+    assert_eq!(rt; wires.len(), 2);
+    let ran = run(&rt, alloc, &mut wires)?;
+    let ends = altered_ends(&rt, alloc)?;
+    let wanted = Outcome {
+        lines: 15,
+        rows: 0b11_1111,
+        begins: true,
+        ends: true,
+        altered: true,
+    };
+    assert_eq!(rt; outcome_of(alloc, &ran, b"rows 6\n", ends.as_slice())?, wanted);
+    Ok(())
+}
