@@ -3,7 +3,7 @@ ghost use Rattle.std.specs.Prelude.{◌≡◌, ◌≤◌};
 ghost use Rattle.waldo_table.specs.Tables.{IsCovered, IsOf};
 
 use crate::calls::{WIDTHS, master, query, row};
-use race_play::{OpenGate, ask_round, write_rows};
+use race_play::{OpenGate, Places, ask_round, write_rows};
 use report_lines::{Line, Report, text};
 use ring128::Memory;
 use std::alloc::Global;
@@ -20,7 +20,7 @@ fn write<R: Abort + Wait>(
     alloc: Global,
     table: &Table,
     pass: &mut Pass,
-) -> Result<(Vec<u64>, Line), Memory>
+) -> Result<(Places, Line), Memory>
     requires pass { IsOf table.now pass.old }
     requires room { 3 ≤ pass.old.sight.room }
     ensures { IsOf table.now pass.new }
@@ -63,7 +63,7 @@ fn ask<R: Abort + Threads + Wait + Sync>(
 }
 
 // The places of the rows, and the text of the two lines.
-type Told = (Vec<u64>, Vec<u8>);
+type Told = (Places, Vec<u8>);
 
 // Writes through the first pass of a table for three rows, and asks through one that was split off without room.
 fn write_and_ask<R: Abort + Threads + Wait + Sync>(rt: &R, alloc: Global) -> Result<Told, Memory> {
