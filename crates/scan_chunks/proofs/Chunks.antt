@@ -1,12 +1,12 @@
 -- The rows of a chunk.
-use Rattle.std.proofs.Common.{◌≡◌, ◌∙◌, refl, sym, ap, ℕ, zero, suc, ◌+◌, ◌-◌, ◌*◌, ◌<◌, ◌≤◌, min, List, get_or, [], ◌∷◌, ◌++◌, length, take, drop, arith, ⊎_elim}
-use Rattle.std.proofs.lemmas.List.{drop_more, drop-take, length-take, length-drop, take_all, take_min}
+use Rattle.std.proofs.Common.{◌≡◌, ◌∙◌, refl, sym, ap, ℕ, zero, suc, ◌+◌, ◌-◌, ◌*◌, ◌<◌, ◌≤◌, min, List, [], ◌∷◌, ◌++◌, length, take, drop, arith, ⊎_elim}
+use Rattle.std.proofs.lemmas.List.{drop-take, length-take, length-drop, take_all, take_min}
 use Rattle.std.proofs.lemmas.Nat.{mul-le}
 use Rattle.std.proofs.lemmas.Bool.{cases_order}
 use Rattle.std.proofs.Math.Seq.{drop-nil, take-add}
 use Rattle.list_facts.specs.Listed.{listed}
 use Rattle.list_facts.proofs.Listed.{listed_same, listed-append}
-use Rattle.ring128.specs.Ring.{plus, times, dot_of}
+use Rattle.ring128.specs.Ring.{plus, dot_of}
 use Rattle.scan_chunks.specs.Pieces.{row_of, chunk_of, chunks_of}
 use Rattle.scan_chunks.specs.Scan.{row_number}
 
@@ -20,12 +20,6 @@ take_less zero m xs h = refl
 take_less (suc n) zero xs h = absurd (omega arith)
 take_less (suc n) (suc m) [] h = refl
 take_less (suc n) (suc m) (x ∷ xs) h = ap (λ (l : List ℕ). x ∷ l) (take_less n m xs (omega arith))
-
--- the sum so far and the dot products of what is left of two tables, one step on
-pub dots_more : (s : ℕ) (xs ys us vs : List ℕ) (i : ℕ) → i < length xs → i < length ys → i < length us → i < length vs
-    → plus (plus s (plus (times (get_or xs i 0) (get_or ys i 0)) (times (get_or us i 0) (get_or vs i 0)))) (plus (dot_of (drop (i + 1) xs) (drop (i + 1) ys)) (dot_of (drop (i + 1) us) (drop (i + 1) vs)))
-    ≡ plus s (plus (dot_of (drop i xs) (drop i ys)) (dot_of (drop i us) (drop i vs)))
-dots_more s xs ys us vs i hx hy hu hv = rw (drop_more xs i 0 hx, drop_more ys i 0 hy, drop_more us i 0 hu, drop_more vs i 0 hv) (omega arith)
 
 -- how many rows a chunk has
 abbrev pub rows_in : ℕ → ℕ → ℕ

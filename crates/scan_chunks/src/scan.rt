@@ -1,12 +1,11 @@
 ghost use Rattle.std.specs.Prelude.{◌≡◌, ◌≤◌, ◌<◌, ◌+◌, ◌*◌, ◌++◌, length, vec_len, vec_capacity, IfOk, OnOk, OnErr};
 ghost use Rattle.list_facts.specs.Listed.{listed};
-ghost use Rattle.ring128.specs.Ring.{plus, dot_of};
 ghost use Rattle.scan_chunks.specs.Pieces.{row_of};
 ghost use Rattle.scan_chunks.specs.Scan.{row_number, scan_of, visits_of, VisitsPart};
 
 use crate::shelf::{Lent, Shelf};
 use crate::tables::Tables;
-use ring128::{Memory, Words, add, mul};
+use ring128::{Memory, Words, add, dot};
 use std::alloc::Global;
 
 /// A number a row: the dot product of the row's firsts in a column with the table `zero`, and that of its seconds with
@@ -74,24 +73,8 @@ fn scan_chunk(numbers: &mut Vec<u128>, lent: &Lent, count: usize, width: usize, 
     for i in 0..count {
         let first = row(lent.first, i, count, width);
         let second = row(lent.second, i, count, width);
-        numbers.push_reserved(dot_both(zero, first, one, second));
+        numbers.push_reserved(add(dot(zero, first), dot(one, second)));
     }
-}
-
-// The dot products of two tables, each with its cells, added up in one pass.
-fn dot_both(zero: &[u128], first: &[u128], one: &[u128], second: &[u128]) -> u128
-    requires first { length first.now ≡ length zero.now }
-    requires one { length one.now ≡ length zero.now }
-    requires second { length second.now ≡ length zero.now }
-    ensures { result ≡ plus (dot_of zero.now first.now) (dot_of one.now second.now) }
-{
-    let mut sum = 0;
-    for (k, factor) in zero.iter().enumerate() {
-        let near = mul(*factor, first[k]);
-        let far = mul(one[k], second[k]);
-        sum = add(sum, add(near, far));
-    }
-    sum
 }
 
 /// Row i of so many rows of a column of this width.

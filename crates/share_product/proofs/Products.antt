@@ -1,14 +1,13 @@
 -- What the parts of three servers add up to.
-use Rattle.std.proofs.Common.{◌≡◌, ℕ, ◌+◌, List, [], ◌∷◌, ◌++◌, length, get_or, take, drop, ◌<◌, ◌≤◌, ◌^◌, refl, sym, ap, ◌∙◌, arith}
+use Rattle.std.proofs.Common.{◌≡◌, ℕ, ◌+◌, List, [], ◌∷◌, ◌++◌, length, get_or, take, drop, refl, sym, ap, ◌∙◌, arith}
 use Rattle.std.proofs.Math.Seq.{take-append_seam}
-use Rattle.std.proofs.lemmas.List.{drop_more, drop_all}
 use Rattle.list_facts.proofs.Listed.{length-listed, get_or-listed}
 use Rattle.prg_chacha.specs.declared.seed.Seed.{Seed}
 use Rattle.prg_chacha.specs.Prg.{pad_of}
 use Rattle.ring128.specs.Ring.{plus, minus, times, dot_of, sums, sums3}
 use Rattle.ring128.proofs.Laws.{inward, sums-listed, length-sums3, get_or-sums3, listed_add_up, dot_of-below, dot_of-sums3, dot_of-sums3_right}
 use Rattle.zero_share.specs.Zero.{parts_of}
-use Rattle.share_product.specs.Product.{local_of, locals_of, local_rows_of, inner_of}
+use Rattle.share_product.specs.Product.{local_of, locals_of, local_rows_of}
 use Rattle.share_product.specs.Laws.{LocalsAddUp, RowsAddUp, InnersAddUp, InnersJoin, ReshareShares}
 
 pub locals_add_up : LocalsAddUp
@@ -42,18 +41,6 @@ dot_of-append (x ∷ xs) (y ∷ ys) us vs e = omega (arith, dot_of-append xs ys 
 pub inners_join : InnersJoin
 inners_join n a a' b b' c c' d d' e0 e1 e2 e3 =
     omega (arith, dot_of-append a b c d (omega arith), dot_of-append a b' c d' (omega arith), dot_of-append a' b c' d (omega arith))
-
--- the sum so far and the part of what is left, one step on
-pub inner_more : (s : ℕ) (a a' b b' : List ℕ) (i : ℕ) → i < length a → i < length a' → i < length b → i < length b'
-    → plus (plus s (local_of (get_or a i 0) (get_or a' i 0) (get_or b i 0) (get_or b' i 0))) (inner_of (drop (i + 1) a) (drop (i + 1) a') (drop (i + 1) b) (drop (i + 1) b'))
-    ≡ plus s (inner_of (drop i a) (drop i a') (drop i b) (drop i b'))
-inner_more s a a' b b' i h h' k k' = rw (drop_more a i 0 h, drop_more a' i 0 h', drop_more b i 0 k, drop_more b' i 0 k') (omega arith)
-
-pub inner_none : (a a' b b' : List ℕ) (i : ℕ) → length a ≤ i → length a' ≤ i → inner_of (drop i a) (drop i a') b b' ≡ 0
-inner_none a a' b b' i h h' = rw (drop_all i a h, drop_all i a' h')
-
-pub inner_of-below : (a a' b b' : List ℕ) → inner_of a a' b b' < 2 ^ 128
-inner_of-below a a' b b' = omega arith
 
 pub reshare_shares : ReshareShares
 reshare_shares part n three =

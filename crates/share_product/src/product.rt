@@ -3,7 +3,7 @@ ghost use Rattle.list_facts.specs.Listed.{listed};
 ghost use Rattle.share_product.specs.Product.{local_of, locals_of, local_rows_of, inner_of};
 
 use replicated_share::{Pair, PairList};
-use ring128::{Memory, Words, add, mul};
+use ring128::{Memory, Words, add, dot, mul};
 use std::alloc::Global;
 use zero_share::ZeroSeeds;
 
@@ -72,19 +72,8 @@ pub fn inner_lent(a_first: &[u128], a_second: &[u128], b_first: &[u128], b_secon
     requires b_second { length b_second.now ≡ length a_first.now }
     ensures { result ≡ inner_of a_first.now a_second.now b_first.now b_second.now }
 {
-    let mut sum = 0;
-    for (i, near) in a_first.iter().enumerate() {
-        let left = Pair {
-            first: *near,
-            second: a_second[i],
-        };
-        let right = Pair {
-            first: b_first[i],
-            second: b_second[i],
-        };
-        sum = add(sum, local(left, right));
-    }
-    sum
+    let near = add(dot(a_first, b_first), dot(a_first, b_second));
+    add(near, dot(a_second, b_first))
 }
 
 /// What a server holds after it sent its part of each number to the server before and got the next server's.

@@ -9,7 +9,7 @@ loop-i-preserved c =
     let row = row_number c.args.tables.now.zero c.args.tables.now.one c.args.width c.args.lent.now.first.now c.args.lent.now.second.now in
     record {
       numbers =
-          rw (c.push_reserved.ensures.items, i.numbers, c.dot_both.ensures, c.as_slice-zero.ensures, c.as_slice-one.ensures, c.row-first.ensures.row, c.row-second.ensures.row, append_assoc)
+          rw (c.push_reserved.ensures.items, i.numbers, c.add.ensures, c.dot.ensures, c.dot-in-loop-i.ensures, c.as_slice-zero.ensures, c.as_slice-one.ensures, c.row-first.ensures.row, c.row-second.ensures.row, append_assoc)
           (ap (λ (l : List ℕ). c.args.numbers.now.items ++ l) (listed_more c.loop-i.i row));
       length = omega (arith, c.push_reserved.ensures.len, i.length);
       room = rw (c.push_reserved.ensures.capacity, i.room);
