@@ -2,4 +2,6 @@
 #![tactic(auto)]
 
 #[cfg(test)]
+mod races;
+#[cfg(test)]
 mod runs;

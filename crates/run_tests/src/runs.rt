@@ -8,7 +8,7 @@ use std::thread::Threads;
 use waldo_run::run_still;
 use wire_line::{RecordWire, Shift, ShiftWire, Shifts, StraightWire, Wire};
 
-const INPUT: &str = "host,value\n3,10\n1,20\n3,5\n";
+pub(crate) const INPUT: &str = "host,value\n3,10\n1,20\n3,5\n";
 
 const COUNT: &str = "ask|host:2|--query|count host=3";
 
@@ -262,7 +262,7 @@ const CASES: [Case; 51] = [
 ];
 
 // The words of a text, cut at each bar; none for the empty text.
-fn words_of(alloc: Global, text: &str) -> Result<Vec<String>, Memory> {
+pub(crate) fn words_of(alloc: Global, text: &str) -> Result<Vec<String>, Memory> {
     let mut words = Vec::new(alloc);
     if text.is_empty() {
         return Ok(words);
@@ -274,7 +274,7 @@ fn words_of(alloc: Global, text: &str) -> Result<Vec<String>, Memory> {
 }
 
 // Sixteen wires that alter nothing.
-fn straight_wires(alloc: Global) -> Result<Vec<StraightWire>, Memory> {
+pub(crate) fn straight_wires(alloc: Global) -> Result<Vec<StraightWire>, Memory> {
     let mut wires = Vec::new(alloc);
     for _ in 0..16 {
         wires.push(StraightWire::new())?;

@@ -1,7 +1,8 @@
 //! The program: command words, standard input and standard output.
 //!
 //! It never looks at a word or a byte itself: it hands the words, a source over standard input, a sink over standard
-//! output and sixteen wires that alter nothing to the top call, and ends with the status that this answers.
+//! output, sixteen wires that alter nothing and a gate that holds no one to the top call, and ends with the status that this
+//! answers.
 #![tactic(auto)]
 
 mod ends;
@@ -14,7 +15,7 @@ use ring128::Memory;
 use std::alloc::Global;
 use std::process::ExitCode;
 use std::{env, io};
-use waldo_run::run_still;
+use waldo_run::{OpenGate, run};
 use wire_line::StraightWire;
 
 // The command words, without the program's name.
@@ -56,6 +57,14 @@ fn main(rt: HostRuntime) -> ExitCode {
     };
     let mut source = Reading::new(rt.stdin());
     let mut sink = Writing::new(rt.stdout());
-    let status = run_still(&rt, rt.alloc(), &words, &mut source, &mut sink, &mut wires);
+    let status = run(
+        &rt,
+        rt.alloc(),
+        &words,
+        &mut source,
+        &mut sink,
+        &mut wires,
+        &OpenGate,
+    );
     ExitCode::from(status)
 }

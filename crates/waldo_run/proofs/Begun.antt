@@ -2,10 +2,12 @@
 use Rattle.std.proofs.Common.{rules, ◌≡◌, ◌≢◌, ◌∙◌, refl, sym, ap, subst, ℕ, ◌⊎◌, inl, inr, true, false, Bool, List, [], ◌∷◌, arith}
 use Rattle.std.specs.Prelude.{IsSomeAnd, Option, Some, None, Result, Ok, Err, OnErr, IfOk, IsErr, MatchBool}
 use Rattle.ring128.specs.declared.memory.Memory.{Memory}
-use Rattle.row_source.specs.Input.{Reading, Reads, most_bytes}
+use Rattle.row_source.specs.Input.{HasReadFault, Reading, Reads, most_bytes}
 use Rattle.row_source.specs.Input.Reading.{Untouched, Whole, Long, Broken}
 use Rattle.row_source.specs.declared.faults.RowFault.{RowFault}
 use Rattle.row_source.specs.declared.faults.RowFault.TheVariants as row
+use Rattle.row_source.specs.declared.input.ReadFault.{ReadFault}
+use Rattle.row_source.specs.declared.input.ReadFault.TheVariants as input
 use Rattle.report_lines.specs.declared.lines.Line.TheVariants as lines
 use Rattle.table_schema.specs.declared.rows.Row.{Row}
 use Rattle.table_schema.specs.declared.widths.Widths.{Widths}
@@ -17,7 +19,7 @@ use Rattle.waldo_words.specs.declared.command.Command.{Command}
 use Rattle.waldo_words.specs.declared.faults.WordFault.{WordFault}
 use Rattle.waldo_words.specs.declared.faults.WordFault.TheVariants as faults
 use Rattle.waldo_words.specs.declared.schedule.Step.{Step}
-use Rattle.waldo_run.specs.Replies.{Reply, Suits, checked_answer, refusal, reply_over, row_refusal, single}
+use Rattle.waldo_run.specs.Replies.{Reply, Suits, checked_answer, refusal, reply_over, row_refusal, single, unread}
 use Rattle.waldo_run.specs.Run.{Answers, Asked, AskedIn, AskedOver, Begun, BegunAt, BegunIn, BegunOver, Breaks, Change, Replies}
 use Rattle.waldo_run.specs.Tasks.{AreWidthsIn, common_in, reads_input, rows_in, rows_made, task_over}
 
@@ -183,6 +185,14 @@ long_replies command source carried unaltered reply r reads none e = record {
   accepted = λ still seven. let f : 5 ≡ 7 = sym (ap (λ (x : Reply). x.status) e) ∙ seven in absurd (omega (arith, f));
 }
 
+-- an input that was not read whole
+pub unread_replies : (command : Command) (fault : ReadFault) (source : Change) (carried : List Done → Type 0) (unaltered : ℕ → Type 0) (reply : Reply) → reads_input command ≡ true
+    → HasReadFault most_bytes fault source.old source.new source.before source.now → carried [] → (reply ≡ unread fault) × (fault ≢ input.Memory)
+    → Replies (Ok command) source carried unaltered reply
+unread_replies command input.Failed source carried unaltered reply r reads none e = broken_replies command source carried unaltered reply r reads none e.0
+unread_replies command input.TooLong source carried unaltered reply r reads none e = long_replies command source carried unaltered reply r reads none e.0
+unread_replies command input.Memory source carried unaltered reply r reads none e = absurd (e.1 refl)
+
 -- all messages of steps are the first ones of them
 pub all_begun : (w : Widths) (s : Setting) (style : Style) (stage : Stage) (xs : List Step) (ds : List Done) → IsHistory w s style stage xs ds → BreaksFrom w s style stage xs ds
 all_begun w s style stage xs [] h = tt
@@ -222,12 +232,8 @@ nothing_breaks (Err fault) source carried none = record { history = []; sent = n
 nothing_breaks (Ok command) source carried none = record { history = []; sent = none; begun = inl refl }
 
 -- what reading gave, where it isn't want of memory
-pub refused_words : (command : Result Command WordFault) (fault known : WordFault) → fault ≡ known → (known ≡ faults.Memory → ⊥)
-    → (fault ≡ faults.Memory) ⊎ (command ≡ Err fault) → command ≡ Err known
-refused_words command fault known same other gave = elim gave [
-  | inl memory ↦ absurd (other (sym same ∙ memory))
-  | inr is ↦ is ∙ ap Err same
-]
+pub refused_words : (command : Result Command WordFault) (fault : WordFault) → (fault ≢ faults.Memory) → (fault ≡ faults.Memory) ⊎ (command ≡ Err fault) → command ≡ Err fault
+refused_words command fault other gave = elim gave [ inl memory ↦ absurd (other memory) | inr is ↦ is ]
 
 pub on_err : {A E : Type 0} (r : Result A E) (P : Type 0) → P → OnErr r P
 on_err (Ok x) P p = tt

@@ -27,7 +27,7 @@ kept zero v other e = absurd (other e)
 kept (suc n) v other e = e
 
 -- any status but 4 is the reply's
-own_status : (reply : Reply) (sink : Change) (v : ℕ) → v ≢ 4 → Puts reply sink v → v ≡ reply.status
+pub own_status : (reply : Reply) (sink : Change) (v : ℕ) → v ≢ 4 → Puts reply sink v → v ≡ reply.status
 own_status reply sink v other puts = elim puts [ inl p ↦ p.0 | inr p ↦ kept reply.status v other p.0 ]
 
 -- what a status says of a reply to rows: 2 only for a schedule, 5 only for rows that have a fault, and none of 3 and 4

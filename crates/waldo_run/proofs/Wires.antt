@@ -43,3 +43,12 @@ module _ {W : Type 0} (alterations : W → ℕ) where
       by : (actor : ℕ) → ((a : ℕ) → RoseAt alterations a vs ws → ⊥) → (Rose (alterations v) (alterations w) → ⊥) → RoseAt alterations actor (v ∷ vs) (w ∷ ws) → ⊥
       by zero none here rose = here rose
       by (suc a) none here rose = none a rose
+
+  -- if it can't be that no wire's count rose, some did
+  pub rose_unless : (vs ws : List W) → ((SomeRose alterations vs ws → ⊥) → ⊥) → SomeRose alterations vs ws
+  rose_unless vs ws f = some_rose vs ws (λ none. f (λ some. absurd (risen vs ws none some)))
+    where
+      risen : (vs ws : List W) → ((actor : ℕ) → RoseAt alterations actor vs ws → ⊥) → SomeRose alterations vs ws → ⊥
+      risen [] ws none some = some
+      risen (v ∷ vs) [] none some = some
+      risen (v ∷ vs) (w ∷ ws) none some = elim some [ inl rose ↦ none 0 rose | inr later ↦ risen vs ws (λ actor. none (suc actor)) later ]

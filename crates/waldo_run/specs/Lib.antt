@@ -1,4 +1,5 @@
 pub mod Made
+pub mod Races
 pub mod Replies
 pub mod Run
 pub mod Tasks

@@ -4,6 +4,8 @@ use Rattle.row_source.specs.Input.{Reading}
 use Rattle.row_source.specs.Input.Reading.{Untouched, Whole, Long, Broken}
 use Rattle.row_source.specs.declared.faults.RowFault.{RowFault}
 use Rattle.row_source.specs.declared.faults.RowFault.TheVariants as row
+use Rattle.row_source.specs.declared.input.ReadFault.{ReadFault}
+use Rattle.row_source.specs.declared.input.ReadFault.TheVariants as input
 use Rattle.report_lines.specs.declared.lines.Line.{Line}
 use Rattle.report_lines.specs.declared.lines.Line.TheVariants as lines
 use Rattle.table_schema.specs.declared.rows.Row.{Row}
@@ -38,6 +40,12 @@ abbrev pub refusal : WordFault → Reply
 refusal (words.Word index) = single 2 (lines.BadWord index)
 refusal (words.Missing name) = single 2 (lines.Missing name)
 refusal words.Memory = no_reply
+
+-- the reply to an input that was not read whole
+abbrev pub unread : ReadFault → Reply
+unread input.Failed = single 3 lines.ReadFault
+unread input.TooLong = single 5 lines.TooLong
+unread input.Memory = no_reply
 
 -- the reply to an input that is refused
 abbrev pub row_refusal : RowFault → Reply

@@ -6,6 +6,9 @@
 //! what these messages opened, over an unaltered wire of words and bytes alone, and every other status has its cause. It never puts a
 //! part of a report by itself, and reads nothing where the words are refused.
 //!
+//! [`run`] does the same and has `race` too, in which writers and askers work at once. What a race prints is no function of words and
+//! bytes, so its clause says which reports may come with the messages that went over the wires.
+//!
 //! ```text
 //! let mut source = MemorySource::new(alloc, b"host,value\n3,10\n", &[])?;
 //! let mut sink = MemorySink::new(alloc, 100, &[])?;
@@ -14,10 +17,16 @@
 //! ```
 #![tactic(auto)]
 
+mod finish;
 mod made;
+mod race;
+mod refusals;
 mod reply;
-mod run;
+mod still;
 mod task;
+mod top;
 mod words;
 
-pub use run::run_still;
+pub use race_play::{Gate, OpenGate, Point};
+pub use still::run_still;
+pub use top::run;

@@ -4,6 +4,7 @@ ghost use Rattle.text_reading.specs.Reading.{Gives};
 ghost use Rattle.waldo_words.specs.Legal.{IsLegal};
 ghost use Rattle.waldo_words.specs.Words.{command_of};
 ghost use Rattle.waldo_words.specs.declared.faults.WordFault.TheVariants.{Memory};
+ghost use Rattle.waldo_run.specs.Races.{begin_race};
 ghost use Rattle.waldo_run.specs.Words.{IsBuilt, begin_unbuilt, command_in, is_unbuilt, only_built};
 
 use std::alloc::Global;
@@ -23,6 +24,16 @@ fn begin_unbuilt(words: &[String]) -> bool
     match words {
         [] => false,
         [word, ..] => is_unbuilt(word.as_str()),
+    }
+}
+
+/// Whether the words begin with `race`.
+pub(crate) fn begin_race(words: &[String]) -> bool
+    ensures { result ≡ begin_race (map string_bytes words.now) }
+{
+    match words {
+        [] => false,
+        [word, ..] => word.as_str() == "race",
     }
 }
 

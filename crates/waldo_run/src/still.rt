@@ -2,27 +2,27 @@
 ghost use Rattle.std.specs.Prelude.{◌≡◌, ◌≢◌, ◌≤◌, ◌⊎◌, ℕ, List, true, All, map, string_bytes, Ok, IfOk, OnErr, IfSome, IsErr, length};
 ghost use Rattle.fault_count.specs.Causes.{Rose};
 ghost use Rattle.report_lines.specs.Line.{text_of};
-ghost use Rattle.row_source.specs.declared.faults.RowFault.TheVariants as row;
 ghost use Rattle.schedule_play.specs.History.{Done};
 ghost use Rattle.schedule_play.specs.Wires.{WiresWent};
 ghost use Rattle.wire_line.specs.Lists.{RoseAt, SomeRose};
-ghost use Rattle.waldo_run.specs.Replies.{row_refusal};
 ghost use Rattle.waldo_run.specs.Run.{Answers, Breaks, HasSchedule, IsUnchanged, Puts, ReadsNothing, Refuses, Replies, Runs, change, plain_reply};
 ghost use Rattle.waldo_run.specs.Tasks.{AreWidthsIn, common_in, reads_input, rows_in, rows_made};
 ghost use Rattle.waldo_run.specs.Words.{IsBuilt, command_in};
 ghost use Rattle.waldo_words.specs.Legal.{IsLegal};
 ghost use Rattle.waldo_words.specs.declared.command.Command.TheVariants as commands;
 
+use crate::finish::finish;
 use crate::made::made_rows;
-use crate::reply::{Reply, single_line};
+use crate::refusals::{refused_rows, refused_words, unread_input};
+use crate::reply::Reply;
 use crate::task::answer_rows;
 use crate::words::read_command;
-use report_lines::{Line, Sink, text};
+use report_lines::Sink;
 use ring128::Memory;
-use row_source::{ReadFault, RowFault, Source, read_all, read_rows};
+use row_source::{Source, read_all, read_rows};
 use std::alloc::Global;
 use std::thread::Threads;
-use waldo_words::{Command, Common, WordFault};
+use waldo_words::{Command, Common};
 use wire_line::Wire;
 
 // What the options have in common.
@@ -36,22 +36,6 @@ fn common_of(command: &Command) -> &Common
         | Command::Make { common, .. }
         | Command::Trace(common)
         | Command::Tamper { common, .. } => common,
-    }
-}
-
-// The reply to an input that gives no rows.
-fn refused_rows(alloc: Global, fault: RowFault) -> Result<Reply, Memory>
-    ensures { IfOk result (λ reply. (reply ≡ row_refusal fault) × (fault ≢ row.Memory)) }
-{
-    match fault {
-        RowFault::Header => single_line(alloc, 5, Line::Header),
-        RowFault::BadRecord { number, why } => single_line(
-            alloc,
-            5,
-            Line::BadRecord { number, why },
-        ),
-        RowFault::TooMany { capacity } => single_line(alloc, 5, Line::TooMany { capacity }),
-        RowFault::Memory => Err(Memory),
     }
 }
 
@@ -97,9 +81,7 @@ fn answer_input<R: Threads + Sync, S: Source, W: Wire>(
 {
     match read_all(alloc, source) {
         Ok(bytes) => answer_bytes(rt, alloc, command, bytes, wires),
-        Err(ReadFault::Failed) => single_line(alloc, 3, Line::ReadFault),
-        Err(ReadFault::TooLong) => single_line(alloc, 5, Line::TooLong),
-        Err(ReadFault::Memory) => Err(Memory),
+        Err(fault) => unread_input(alloc, fault),
     }
 }
 
@@ -163,23 +145,7 @@ fn reply_in<R: Threads + Sync, S: Source, W: Wire>(
 {
     match read_command(alloc, words) {
         Ok(command) => answer(rt, alloc, &command, source, wires),
-        Err(WordFault::Word { index }) => single_line(alloc, 2, Line::BadWord { index }),
-        Err(WordFault::Missing { name }) => single_line(alloc, 2, Line::Missing { name }),
-        Err(WordFault::Memory) => Err(Memory),
-    }
-}
-
-// Puts the text of a reply, and says with what status the run ends.
-fn finish<K: Sink>(alloc: Global, reply: &Reply, sink: &mut K) -> u8
-    ensures memory { result ≡ 6 → IsUnchanged (change K.taken K.fault_count sink.old sink.new) }
-    ensures puts { result ≢ 6 → Puts reply.now (change K.taken K.fault_count sink.old sink.new) result }
-{
-    let Ok(text) = text(alloc, reply.report()) else {
-        return 6;
-    };
-    match sink.put(&text) {
-        Ok(()) => reply.status(),
-        Err(_) => reply.status_after_failed_put(),
+        Err(fault) => refused_words(alloc, fault),
     }
 }
 

@@ -3,7 +3,7 @@ use Rattle.std.specs.Prelude.{Ok}
 use Rattle.waldo_run.specs.Tasks.{common_in, rows_in}
 use Rattle.waldo_run.proofs.Begun.{fault_answers, rows_answers}
 use Rattle.waldo_run.proofs.Wires.{still_wires}
-use Rattle.waldo_run.proofs.run.answer_bytes.Goals as goal
+use Rattle.waldo_run.proofs.still.answer_bytes.Goals as goal
 
 pub returns-in-Err-clause-answers : goal.returns-in-Err-clause-answers
 returns-in-Err-clause-answers g c =

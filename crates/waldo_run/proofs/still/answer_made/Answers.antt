@@ -8,7 +8,7 @@ use Rattle.waldo_run.specs.Made.{made_row, made_rows}
 use Rattle.waldo_run.specs.Tasks.{bits_of, common_in, rows_made}
 use Rattle.waldo_run.proofs.Begun.{none_answers, rows_answers}
 use Rattle.waldo_run.proofs.Wires.{still_wires}
-use Rattle.waldo_run.proofs.run.answer_made.Goals as goal
+use Rattle.waldo_run.proofs.still.answer_made.Goals as goal
 
 pub returns-in_err-rows-clause-answers : goal.returns-in_err-rows-clause-answers
 returns-in_err-rows-clause-answers g c =

@@ -1,0 +1,108 @@
+-- What a race does to its source, its wires and its sink, and with what status it ends.
+use Rattle.std.specs.Prelude.{◌≡◌, ⊤, ℕ, Bool, false, bytes_eq, codes, if◌then◌else◌, Result, Ok, Err, List, [], ◌∷◌}
+use Rattle.std.specs.List.{list_any}
+use Rattle.query_plan.specs.Query.{AreWidthsOf}
+use Rattle.race_play.specs.Reports.{Reports, is_altered}
+use Rattle.race_play.specs.Settings.{IsSetting, Setting}
+use Rattle.race_play.specs.declared.setting.Crew.{Crew}
+use Rattle.report_lines.specs.declared.lines.Line.{Line}
+use Rattle.report_lines.specs.declared.lines.Line.TheVariants as lines
+use Rattle.row_source.specs.Input.{Reading, Reads, most_bytes}
+use Rattle.row_source.specs.Input.Reading.{Untouched, Whole, Long, Broken}
+use Rattle.row_source.specs.declared.faults.RowFault.{RowFault}
+use Rattle.table_schema.specs.declared.rows.Row.{Row}
+use Rattle.table_schema.specs.declared.widths.Widths.{Widths}
+use Rattle.waldo_words.specs.Words.{command_of}
+use Rattle.waldo_words.specs.declared.command.Common.{Common}
+use Rattle.waldo_words.specs.declared.command.Command.{Command}
+use Rattle.waldo_words.specs.declared.command.Command.TheVariants as commands
+use Rattle.waldo_words.specs.declared.faults.WordFault.{WordFault}
+use Rattle.wire_line.specs.declared.message.Message.{Message}
+use Rattle.waldo_run.specs.Replies.{Reply, refusal, row_refusal, single}
+use Rattle.waldo_run.specs.Run.{Change, Puts}
+use Rattle.waldo_run.specs.Tasks.{rows_in}
+use Rattle.waldo_run.specs.Words.{command_in}
+
+-- the words begin with `race`
+abbrev pub begin_race : List (List ℕ) → Bool
+begin_race [] = false
+begin_race (word ∷ words) = bytes_eq word (codes "race")
+
+-- the command that the words say where `race` is built, or why they are refused
+abbrev pub command_at : List (List ℕ) → Result Command WordFault
+command_at words = if begin_race words then command_of words else command_in words
+
+-- a command that is a race
+abbrev pub IsRacing : Command → Type 0
+IsRacing (commands.Race common writers askers rounds) = ⊤
+IsRacing (commands.Ask common) = ⊥
+IsRacing (commands.Replay common schedule) = ⊥
+IsRacing (commands.Make common number count) = ⊥
+IsRacing (commands.Trace common) = ⊥
+IsRacing (commands.Tamper common shifts) = ⊥
+
+-- who takes part in a race, as its words say
+abbrev pub crew_of : Common → ℕ → ℕ → ℕ → Crew
+crew_of common writers askers rounds = record { writers = writers; askers = askers; rounds = rounds; workers = common.workers }
+
+-- a race over rows of these widths
+abbrev pub race_over : Common → Crew → Widths → List Row → Setting
+race_over common crew w rows = record {
+  widths = w;
+  rows = rows;
+  queries = common.queries;
+  master = common.seed;
+  writers = crew.writers;
+  askers = crew.askers;
+  rounds = crew.rounds;
+}
+
+-- 7 where the check refused what some answer opened, and else 0
+abbrev pub status_of : List Line → ℕ
+status_of report = if list_any is_altered report then 7 else 0
+
+-- A race over rows: these messages went over the wires, a list for each of the first ones; the report is one of a race with these messages;
+-- and the status is the report's.
+pub record RacedOver (common : Common) (crew : Crew) (rows : List Row) (sent : List (List Message)) (reply : Reply) : Type 0 where
+  pub widths : Widths
+  pub of : AreWidthsOf common.schema widths
+  pub legal : IsSetting (race_over common crew widths rows)
+  pub reports : Reports (race_over common crew widths rows) sent reply.report
+  pub status : reply.status ≡ status_of reply.report
+
+-- the same where the rows may have a fault: then nothing was sent, and the reply says the fault
+abbrev pub RacedIn : Common → Crew → Result (List Row) RowFault → List (List Message) → Reply → Type 0
+RacedIn common crew (Err fault) sent reply = (sent ≡ []) × (reply ≡ row_refusal fault)
+RacedIn common crew (Ok rows) sent reply = RacedOver common crew rows sent reply
+
+-- the same over what reading gave: a race reads its input
+abbrev pub RacedFrom : Common → Crew → Reading → List (List Message) → Reply → Type 0
+RacedFrom common crew Untouched sent reply = ⊥
+RacedFrom common crew Broken sent reply = (sent ≡ []) × (reply ≡ single 3 lines.ReadFault)
+RacedFrom common crew Long sent reply = (sent ≡ []) × (reply ≡ single 5 lines.TooLong)
+RacedFrom common crew (Whole bytes) sent reply = RacedIn common crew (rows_in common bytes) sent reply
+
+-- the same for words, which may be refused: then nothing was read or sent. Words that begin with `race` say no other command
+abbrev pub RacedBy : Result Command WordFault → Reading → List (List Message) → Reply → Type 0
+RacedBy (Err fault) reading sent reply = (reading ≡ Untouched) × (sent ≡ []) × (reply ≡ refusal fault)
+RacedBy (Ok (commands.Race common writers askers rounds)) reading sent reply =
+    RacedFrom common (crew_of common writers askers rounds) reading sent reply
+RacedBy (Ok (commands.Ask common)) reading sent reply = ⊥
+RacedBy (Ok (commands.Replay common schedule)) reading sent reply = ⊥
+RacedBy (Ok (commands.Make common number count)) reading sent reply = ⊥
+RacedBy (Ok (commands.Trace common)) reading sent reply = ⊥
+RacedBy (Ok (commands.Tamper common shifts)) reading sent reply = ⊥
+
+-- The source was met in one of its ways, these messages went over the wires, and the reply is one that a race may come to with them.
+pub record RaceReplies (command : Result Command WordFault) (source : Change) (carried : List (List Message) → Type 0) (reply : Reply) : Type 0 where
+  pub reading : Reading
+  pub reads : Reads most_bytes reading source.old source.new source.before source.now
+  pub sent : List (List Message)
+  pub went : carried sent
+  pub raced : RacedBy command reading sent reply
+
+-- The whole race, but for want of memory: such a reply, put into the sink.
+pub record Races (command : Result Command WordFault) (source : Change) (carried : List (List Message) → Type 0) (sink : Change) (status : ℕ) : Type 0 where
+  pub reply : Reply
+  pub replies : RaceReplies command source carried reply
+  pub puts : Puts reply sink status
