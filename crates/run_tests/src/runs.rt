@@ -251,7 +251,7 @@ const CASES: [Case; 51] = [
         "ask 0 rows 65536 count 2048\nask 1 rows 65536 sum 138311680\n",
     ),
     ("make|host:2", "", 2, "waldo: missing --query\n"),
-    // Commands that are not built yet.
+    // A race, which run_still never has, and a command that is not built yet.
     ("race", INPUT, 2, "waldo: bad word 0\n"),
     (
         "trace|host:2|--query|count host=3",
