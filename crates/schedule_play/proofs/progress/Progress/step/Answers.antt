@@ -1,4 +1,4 @@
-use Rattle.std.proofs.Common.{rules, ℕ, ◌∙◌, refl, sym, ap, subst, Err, arith}
+use Rattle.std.proofs.Common.{ℕ, ◌∙◌, refl, sym, ap, subst, Err, arith}
 use Rattle.std.proofs.lemmas.Result.{err_from_is_err_and}
 use Rattle.table_schema.specs.declared.widths.Widths.{Widths}
 use Rattle.waldo_core.specs.Answers.{Begins, Carries}
