@@ -431,13 +431,23 @@ const KEY: u128 = 11186861279801934813;
 #[test]
 fn alterations(rt: HostRuntime) -> Result<(), Fail> {
     let alloc = rt.alloc();
-    let cases: [(Case, &[(u64, u128)]); 4] = [
+    let cases: [(Case, &[(u64, u128)]); 5] = [
         (
             (
                 COUNT,
                 INPUT,
                 7,
                 "ask 0 rows 3 altered total 3 weighted 22373722559603869626\n",
+            ),
+            &[(6, 1)],
+        ),
+        // The first of two queries: the second, whose messages are as they were sent, has its plain answer.
+        (
+            (
+                "ask|host:2|--query|count host=3|--query|count host=1",
+                INPUT,
+                7,
+                "ask 0 rows 3 altered total 3 weighted 22373722559603869626\nask 1 rows 3 count 1\n",
             ),
             &[(6, 1)],
         ),

@@ -3,7 +3,7 @@ use Rattle.std.proofs.Common.{◌≡◌, ◌∙◌, refl, sym, ap, subst, ℕ, s
 use Rattle.table_schema.specs.declared.widths.Widths.{Widths}
 use Rattle.server_rounds.specs.declared.opened.OpenedPair.{OpenedPair}
 use Rattle.waldo_words.specs.declared.schedule.Step.{Step}
-use Rattle.schedule_play.specs.History.{Breaks, Done, IsHistory, pair_at}
+use Rattle.schedule_play.specs.History.{AreHonest, Breaks, Done, IsHistory, pair_at}
 use Rattle.schedule_play.specs.Leads.{Advances}
 use Rattle.schedule_play.specs.Plain.{ArePlain}
 use Rattle.schedule_play.specs.Stages.{Stage, actor_in, go_on, next_stage, played_on}
@@ -19,10 +19,6 @@ from_some : {A : Type 0} (o : Option A) (P : A → Type 0) (R : Type 0) → ((x 
 from_some None P R f h = absurd h
 from_some (Some x) P R f h = f x h
 
-if_some : {A : Type 0} (o : Option A) (P Q : A → Type 0) → ((x : A) → P x → Q x) → IfSome o P → IfSome o Q
-if_some None P Q f h = tt
-if_some (Some x) P Q f h = f x h
-
 if_some_and : {A : Type 0} (o : Option A) (P Q R : A → Type 0) → ((x : A) → P x → Q x → R x) → IsSomeAnd o P → IfSome o Q → IfSome o R
 if_some_and None P Q R f p q = absurd p
 if_some_and (Some x) P Q R f p q = f x p q
@@ -32,13 +28,13 @@ go_on_is rest t r None P f h = absurd h
 go_on_is rest t r (Some next) P f h = f next h
 
 -- where unaltered wires are fewer, less is said of them
-pub plain_weaker : (P Q : ℕ → Type 0) (s : Setting) (style : Style) → ((actor : ℕ) → Q actor → P actor) → (ds : List Done) (stage : Stage) → ArePlain P s style stage ds → ArePlain Q s style stage ds
-plain_weaker P Q s style f [] stage p = tt
-plain_weaker P Q s style f (d ∷ ds) stage p = (
-  (λ q. p.0 (f (actor_in d.step) q)),
-  if_some (next_stage s style stage d.step d.pair) (λ (next : Stage). ArePlain P s style next ds) (λ (next : Stage). ArePlain Q s style next ds)
-      (λ next a. plain_weaker P Q s style f ds next a) p.1,
-)
+pub honest_weaker : (P Q : ℕ → Type 0) → ((actor : ℕ) → Q actor → P actor) → (ds : List Done) → AreHonest P ds → AreHonest Q ds
+honest_weaker P Q f [] h = tt
+honest_weaker P Q f (d ∷ ds) h = ((λ q. h.0 (f (actor_in d.step) q)), honest_weaker P Q f ds h.1)
+
+pub honest_both : (P : ℕ → Type 0) (ds es : List Done) → AreHonest P ds → AreHonest P es → AreHonest P (ds ++ es)
+honest_both P [] es h k = k
+honest_both P (d ∷ ds) es h k = (h.0, honest_both P ds es h.1 k)
 
 module _ (w : Widths) (s : Setting) (style : Style) where
   pub advances_both : (xs ys : List Step) (ds es : List Done) (stage mid end : Stage) → Advances w s style stage xs ds mid → Advances w s style mid ys es end
@@ -80,15 +76,15 @@ module _ (w : Widths) (s : Setting) (style : Style) where
     ),
   )
 
-  pub plain_after : (P : ℕ → Type 0) (xs : List Step) (ds es : List Done) (stage mid : Stage) → Advances w s style stage xs ds mid → ArePlain P s style stage ds
-      → ArePlain P s style mid es → ArePlain P s style stage (ds ++ es)
-  plain_after P [] [] es stage mid p f g = subst (λ (a : Stage). ArePlain P s style a es) p g
-  plain_after P [] (d ∷ ds) es stage mid p f g = absurd p
-  plain_after P (x ∷ xs) [] es stage mid p f g = absurd p
-  plain_after P (x ∷ xs) (d ∷ ds) es stage mid p f g = (
+  pub plain_after : (xs : List Step) (ds es : List Done) (stage mid : Stage) → Advances w s style stage xs ds mid → ArePlain s style stage ds
+      → ArePlain s style mid es → ArePlain s style stage (ds ++ es)
+  plain_after [] [] es stage mid p f g = subst (λ (a : Stage). ArePlain s style a es) p g
+  plain_after [] (d ∷ ds) es stage mid p f g = absurd p
+  plain_after (x ∷ xs) [] es stage mid p f g = absurd p
+  plain_after (x ∷ xs) (d ∷ ds) es stage mid p f g = (
     f.0,
-    if_some_and (next_stage s style stage d.step d.pair) (λ (next : Stage). Advances w s style next xs ds mid) (λ (next : Stage). ArePlain P s style next ds)
-        (λ (next : Stage). ArePlain P s style next (ds ++ es)) (λ next a b. plain_after P xs ds es next mid a b g)
+    if_some_and (next_stage s style stage d.step d.pair) (λ (next : Stage). Advances w s style next xs ds mid) (λ (next : Stage). ArePlain s style next ds)
+        (λ (next : Stage). ArePlain s style next (ds ++ es)) (λ next a b. plain_after xs ds es next mid a b g)
         (subst (λ (y : Step). IsSomeAnd (next_stage s style stage y d.pair) (λ (next : Stage). Advances w s style next xs ds mid)) (sym p.0) p.2) f.1,
   )
 

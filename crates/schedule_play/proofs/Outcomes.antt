@@ -4,9 +4,8 @@ use Rattle.table_schema.specs.declared.widths.Widths.{Widths}
 use Rattle.wire_line.specs.Carried.{BothPass, NonePasses}
 use Rattle.wire_line.specs.declared.message.Message.{Message}
 use Rattle.waldo_words.specs.declared.schedule.Step.{Step}
-use Rattle.schedule_play.specs.History.{Done, pair_at}
+use Rattle.schedule_play.specs.History.{AreHonest, Done, pair_at}
 use Rattle.schedule_play.specs.Leads.{Advances, EndsAt, IsStill, Leads, Stops}
-use Rattle.schedule_play.specs.Plain.{ArePlain}
 use Rattle.schedule_play.specs.Plays.{EndsWith, Ended, Plays}
 use Rattle.schedule_play.specs.Stages.{Stage, first_stage}
 use Rattle.schedule_play.specs.Tasks.{Setting, Task}
@@ -15,7 +14,7 @@ use Rattle.schedule_play.specs.declared.play.PlayFault.{PlayFault}
 use Rattle.schedule_play.specs.declared.play.PlayFault.TheVariants.{NotAllowed, Memory}
 use Rattle.schedule_play.specs.declared.play.Played.{Played}
 use Rattle.schedule_play.specs.declared.style.Style.{Style}
-use Rattle.schedule_play.proofs.Advancing.{advances_both, breaks_after, breaks_more, history_after, history_more, history_of, length_advances, plain_after, plain_weaker, played_all, played_refused}
+use Rattle.schedule_play.proofs.Advancing.{advances_both, breaks_after, breaks_more, history_after, history_more, history_of, length_advances, honest_both, honest_weaker, plain_after, played_all, played_refused}
 use Rattle.schedule_play.proofs.Going.{rose_first, rose_last, wires_both, wires_none}
 
 -- some steps were done, and then these came to an end
@@ -36,24 +35,24 @@ ends_more w s style t xs ys ds stage (NotAllowed index) p = (history_more w s st
 ends_more w s style t xs ys ds stage Memory p = breaks_more w s style xs ys ds stage p
 
 module _ {W : Type 0} (told : W → Option (List Message)) (alterations : W → ℕ) (passes : W → List Message → W → Type 0) (w : Widths) (s : Setting) (style : Style) where
-  -- what was opened over wires that were unaltered over all of the steps
-  plain_both : (stage mid : Stage) (vs us ws : List W) (xs : List Step) (ds es : List Done) → Advances w s style stage xs ds mid
-      → WiresWent told alterations passes ds 0 vs us → WiresWent told alterations passes es 0 us ws
-      → ArePlain (IsStill alterations vs us) s style stage ds → ArePlain (IsStill alterations us ws) s style mid es → ArePlain (IsStill alterations vs ws) s style stage (ds ++ es)
-  plain_both stage mid vs us ws xs ds es advances p q f g =
-      plain_after w s style (IsStill alterations vs ws) xs ds es stage mid advances
-      (plain_weaker (IsStill alterations vs us) (IsStill alterations vs ws) s style (λ actor still rose. still (rose_first told alterations passes 0 ds es actor vs us ws p q rose)) ds stage f)
-      (plain_weaker (IsStill alterations us ws) (IsStill alterations vs ws) s style (λ actor still rose. still (rose_last told alterations passes 0 ds es actor vs us ws p q rose)) es mid g)
+  -- the messages over wires that were unaltered over all of the steps
+  all_honest : (vs us ws : List W) (ds es : List Done) → WiresWent told alterations passes ds 0 vs us → WiresWent told alterations passes es 0 us ws
+      → AreHonest (IsStill alterations vs us) ds → AreHonest (IsStill alterations us ws) es → AreHonest (IsStill alterations vs ws) (ds ++ es)
+  all_honest vs us ws ds es p q f g =
+      honest_both (IsStill alterations vs ws) ds es
+      (honest_weaker (IsStill alterations vs us) (IsStill alterations vs ws) (λ actor still rose. still (rose_first told alterations passes 0 ds es actor vs us ws p q rose)) ds f)
+      (honest_weaker (IsStill alterations us ws) (IsStill alterations vs ws) (λ actor still rose. still (rose_last told alterations passes 0 ds es actor vs us ws p q rose)) es g)
 
   pub leads_none : NonePasses passes → (stage : Stage) (vs : List W) → Leads told alterations passes w s style stage vs [] stage vs
-  leads_none none stage vs = record { history = []; sent = wires_none told alterations passes none 0 vs; plain = tt; advances = refl; calm = λ still. refl }
+  leads_none none stage vs = record { history = []; sent = wires_none told alterations passes none 0 vs; honest = tt; plain = tt; advances = refl; calm = λ still. refl }
 
   pub leads_both : BothPass passes → (stage mid end : Stage) (vs us ws : List W) (xs ys : List Step) → Leads told alterations passes w s style stage vs xs mid us
       → Leads told alterations passes w s style mid us ys end ws → Leads told alterations passes w s style stage vs (xs ++ ys) end ws
   leads_both both stage mid end vs us ws xs ys p q = record {
     history = p.history ++ q.history;
     sent = wires_both told alterations passes both p.history q.history 0 vs us ws p.sent q.sent;
-    plain = plain_both stage mid vs us ws xs p.history q.history p.advances p.sent q.sent p.plain q.plain;
+    honest = all_honest vs us ws p.history q.history p.sent q.sent p.honest q.honest;
+    plain = plain_after w s style xs p.history q.history stage mid p.advances p.plain q.plain;
     advances = advances_both w s style xs ys p.history q.history stage mid end p.advances q.advances;
     calm = λ still.
         q.calm (λ actor rose. still actor (rose_last told alterations passes 0 p.history q.history actor vs us ws p.sent q.sent rose))
@@ -66,13 +65,14 @@ module _ {W : Type 0} (told : W → Option (List Message)) (alterations : W → 
   leads_stops both t stage mid vs us ws xs ys fault p q = record {
     history = p.history ++ q.history;
     sent = wires_both told alterations passes both p.history q.history 0 vs us ws p.sent q.sent;
-    plain = plain_both stage mid vs us ws xs p.history q.history p.advances p.sent q.sent p.plain q.plain;
+    honest = all_honest vs us ws p.history q.history p.sent q.sent p.honest q.honest;
+    plain = plain_after w s style xs p.history q.history stage mid p.advances p.plain q.plain;
     ends = ends_after w s style t xs ys p.history q.history stage mid fault p.advances q.ends;
   }
 
   pub stops_more : (t : ℕ) (stage : Stage) (vs ws : List W) (xs ys : List Step) (fault : PlayFault) → Stops told alterations passes w s style t stage vs xs ws fault
       → Stops told alterations passes w s style t stage vs (xs ++ ys) ws fault
-  stops_more t stage vs ws xs ys fault p = record { history = p.history; sent = p.sent; plain = p.plain; ends = ends_more w s style t xs ys p.history stage fault p.ends }
+  stops_more t stage vs ws xs ys fault p = record { history = p.history; sent = p.sent; honest = p.honest; plain = p.plain; ends = ends_more w s style t xs ys p.history stage fault p.ends }
 
 -- the steps of a task open the pairs of their history
 same_pairs : (history : List Done) (i : ℕ) → i < length history → pair_at history (0 + i) ≡ pair_at history i
@@ -94,6 +94,7 @@ module _ {W : Type 0} (told : W → Option (List Message)) (alterations : W → 
       record {
         history = leads.history;
         sent = leads.sent;
+        honest = leads.honest;
         plain = leads.plain;
         ended = (
           history_of w task.setting task.style task.steps leads.history first_stage end leads.advances,
@@ -110,8 +111,8 @@ module _ {W : Type 0} (told : W → Option (List Message)) (alterations : W → 
       let stops : Stops told alterations passes w task.setting task.style 0 first_stage vs task.steps ws fault =
       subst (λ (n : ℕ). Stops told alterations passes w task.setting task.style n first_stage vs task.steps ws fault) none
       (subst (λ (a : Stage). Stops told alterations passes w task.setting task.style t a vs task.steps ws fault) first found) in
-      record { history = stops.history; sent = stops.sent; plain = stops.plain; ended = ended_at w task stops.history fault stops.ends; accepted = λ still. tt }
+      record { history = stops.history; sent = stops.sent; honest = stops.honest; plain = stops.plain; ended = ended_at w task stops.history fault stops.ends; accepted = λ still. tt }
 
   -- there was no memory to begin with
   pub nothing_plays : NonePasses passes → ws ≡ vs → Plays w task (λ history. WiresWent told alterations passes history 0 vs ws) (IsStill alterations vs ws) (Err Memory)
-  nothing_plays none same = record { history = []; sent = subst (λ (us : List W). WiresWent told alterations passes [] 0 vs us) (sym same) (wires_none told alterations passes none 0 vs); plain = tt; ended = tt; accepted = λ still. tt }
+  nothing_plays none same = record { history = []; sent = subst (λ (us : List W). WiresWent told alterations passes [] 0 vs us) (sym same) (wires_none told alterations passes none 0 vs); honest = tt; plain = tt; ended = tt; accepted = λ still. tt }

@@ -10,7 +10,7 @@ use Rattle.waldo_core.specs.Step.{acts, step}
 use Rattle.waldo_core.specs.declared.events.Event.{Event}
 use Rattle.waldo_core.specs.declared.events.Event.TheVariants as events
 use Rattle.waldo_words.specs.declared.schedule.Step.{Step}
-use Rattle.schedule_play.specs.History.{Done, IsHistory, HasHistory, opened_in, pair_at}
+use Rattle.schedule_play.specs.History.{AreHonest, Done, IsHistory, HasHistory, opened_in, pair_at}
 use Rattle.schedule_play.specs.Plain.{ArePlain, IsPlainOf, plain_of, plain_over, plainly}
 use Rattle.schedule_play.specs.Stages.{Opening, Stage, event_of, first_stage, go_on, next_stage, played, played_on, step_of, with_reply}
 use Rattle.schedule_play.specs.Tasks.{Setting, Task}
@@ -66,14 +66,14 @@ rest_of w s style opens t xs next = played_on s style opens (t + 1) next xs
 -- steps from a stage on, where each opens what its history says
 same : (w : Widths) (s : Setting) (style : Style) (opens : Opening) (t : ℕ) (stage : Stage) (xs : List Step) (ds : List Done)
     → ((i : ℕ) (st : Stage) (x : Step) → opens (t + i) st x ≡ pair_at ds i)
-    → IsHistory w s style stage xs ds → ArePlain (λ actor. ⊤) s style stage ds
+    → IsHistory w s style stage xs ds → AreHonest (λ actor. ⊤) ds → ArePlain s style stage ds
     → played_on s style opens t stage xs ≡ played_on s style (plainly s) t stage xs
-same w s style opens t stage [] [] gives history plain = refl
-same w s style opens t stage [] (d ∷ ds) gives history plain = absurd history
-same w s style opens t stage (x ∷ xs) [] gives history plain =
+same w s style opens t stage [] [] gives history honest plain = refl
+same w s style opens t stage [] (d ∷ ds) gives history honest plain = absurd history
+same w s style opens t stage (x ∷ xs) [] gives history honest plain =
     ap (go_on (rest_of w s style opens t xs) t) (history (opens t stage x)) ∙ sym (ap (go_on (rest_of w s style (plainly s) t xs) t) (history (plainly s t stage x)))
-same w s style opens t stage (x ∷ xs) (d ∷ ds) gives history plain =
-    by (next_stage s style stage x d.pair) refl (λ next on clear. same w s style opens (t + 1) next xs ds later on clear)
+same w s style opens t stage (x ∷ xs) (d ∷ ds) gives history honest plain =
+    by (next_stage s style stage x d.pair) refl (λ next on clear. same w s style opens (t + 1) next xs ds later on honest.1 clear)
   where
     here : opens t stage x ≡ d.pair
     here = let e : t + 0 ≡ t = omega arith in subst (λ (n : ℕ). opens n stage x ≡ d.pair) e (gives 0 stage x)
@@ -85,23 +85,23 @@ same w s style opens t stage (x ∷ xs) (d ∷ ds) gives history plain =
     goes = history.2
 
     plain_here : IsPlainOf stage (event_of s stage x) d.pair
-    plain_here = subst (λ (y : Step). IsPlainOf stage (event_of s stage y) d.pair) history.0 (plain.0 tt)
+    plain_here = subst (λ (y : Step). IsPlainOf stage (event_of s stage y) d.pair) history.0 (plain.0 (honest.0 tt))
 
-    plain_on : IfSome (next_stage s style stage x d.pair) (λ (next : Stage). ArePlain (λ actor. ⊤) s style next ds)
-    plain_on = subst (λ (y : Step). IfSome (next_stage s style stage y d.pair) (λ (next : Stage). ArePlain (λ actor. ⊤) s style next ds)) history.0 plain.1
+    plain_on : IfSome (next_stage s style stage x d.pair) (λ (next : Stage). ArePlain s style next ds)
+    plain_on = subst (λ (y : Step). IfSome (next_stage s style stage y d.pair) (λ (next : Stage). ArePlain s style next ds)) history.0 plain.1
 
     by : (o : Option Stage) → next_stage s style stage x d.pair ≡ o
-        → ((next : Stage) → IsHistory w s style next xs ds → ArePlain (λ actor. ⊤) s style next ds → played_on s style opens (t + 1) next xs ≡ played_on s style (plainly s) (t + 1) next xs)
+        → ((next : Stage) → IsHistory w s style next xs ds → ArePlain s style next ds → played_on s style opens (t + 1) next xs ≡ played_on s style (plainly s) (t + 1) next xs)
         → played_on s style opens t stage (x ∷ xs) ≡ played_on s style (plainly s) t stage (x ∷ xs)
     by None e rest = absurd (subst (λ (o : Option Stage). IsSomeAnd o (λ (next : Stage). IsHistory w s style next xs ds)) e goes)
     by (Some next) e rest =
         let left : next_stage s style stage x (opens t stage x) ≡ Some next = ap (next_stage s style stage x) here ∙ e in
         let right : next_stage s style stage x (plainly s t stage x) ≡ Some next = sym (step_plain s style stage x d.pair t plain_here) ∙ e in
         let on : IsHistory w s style next xs ds = subst (λ (o : Option Stage). IsSomeAnd o (λ (next : Stage). IsHistory w s style next xs ds)) e goes in
-        let clear : ArePlain (λ actor. ⊤) s style next ds = subst (λ (o : Option Stage). IfSome o (λ (next : Stage). ArePlain (λ actor. ⊤) s style next ds)) e plain_on in
+        let clear : ArePlain s style next ds = subst (λ (o : Option Stage). IfSome o (λ (next : Stage). ArePlain s style next ds)) e plain_on in
         ap (go_on (rest_of w s style opens t xs) t) left ∙ rest next on clear ∙ sym (ap (go_on (rest_of w s style (plainly s) t xs) t) right)
 
 pub plainly_played : (w : Widths) (task : Task) (history : List Done) → HasHistory w task history
-    → ArePlain (λ actor. ⊤) task.setting task.style first_stage history → played (opened_in history) task ≡ played (plainly task.setting) task
-plainly_played w task history has plain =
-    same w task.setting task.style (opened_in history) 0 first_stage task.steps history (λ i st x. let e : 0 + i ≡ i = omega arith in ap (pair_at history) e) has plain
+    → AreHonest (λ actor. ⊤) history → ArePlain task.setting task.style first_stage history → played (opened_in history) task ≡ played (plainly task.setting) task
+plainly_played w task history has honest plain =
+    same w task.setting task.style (opened_in history) 0 first_stage task.steps history (λ i st x. let e : 0 + i ≡ i = omega arith in ap (pair_at history) e) has honest plain

@@ -12,9 +12,9 @@ use Rattle.waldo_core.specs.declared.events.Event.{Event}
 use Rattle.waldo_core.specs.declared.events.Reply.{Reply}
 use Rattle.waldo_words.specs.declared.schedule.Step.{Step}
 use Rattle.wire_line.specs.Carried.{NonePasses}
-use Rattle.wire_line.specs.Messages.{Went}
+use Rattle.wire_line.specs.Messages.{IsHonest, Went}
 use Rattle.wire_line.specs.declared.message.Message.{Message}
-use Rattle.schedule_play.specs.History.{CarriesOf, BeginsOf, Done, HasNoCase, is_answer}
+use Rattle.schedule_play.specs.History.{AreHonest, CarriesOf, BeginsOf, Done, HasNoCase, is_answer}
 use Rattle.schedule_play.specs.Leads.{IsStill, Leads, Stops}
 use Rattle.schedule_play.specs.Plain.{ArePlain, IsPlainOf, plain_of}
 use Rattle.schedule_play.specs.Stages.{Stage, actor_in, event_of, next_stage, step_of, with_reply}
@@ -62,25 +62,30 @@ module _ (s : Setting) (style : Style) (stage : Stage) (x : Step) where
 
 module _ {W : Type 0} (told : W → Option (List Message)) (alterations : W → ℕ) (passes : W → List Message → W → Type 0) (none : NonePasses passes)
     (w : Widths) (s : Setting) (style : Style) (stage : Stage) (x : Step) (vs : List W) where
-  -- what a step opened over its wire
-  plain_one : (event : Event) (ms : List Message) (pair : OpenedPair) (i : ℕ) (v u : W) → event_of s stage x ≡ Some event → actor_in x ≡ i → i < length vs → v ≡ get_or vs i v
-      → ((Rose (alterations v) (alterations u) → ⊥) → IsPlain stage.core event pair)
-      → ArePlain (IsStill alterations vs (set vs i u)) s style stage (entry x ms pair ∷ [])
-  plain_one event ms pair i v u e own there is plain = (
-    λ still. subst (λ (o : Option Event). IsPlainOf stage o pair) (sym e) (plain (λ rose. still (subst (λ (j : ℕ). RoseAt alterations j vs (set vs i u)) (sym own) (rose_here told alterations passes i vs v u there is rose)))),
-    some_if (next_stage s style stage x pair),
+  -- the messages of a step over its wire
+  honest_one : (ms : List Message) (pair : OpenedPair) (i : ℕ) (v u : W) → actor_in x ≡ i → i < length vs → v ≡ get_or vs i v → Went told alterations passes v ms u
+      → AreHonest (IsStill alterations vs (set vs i u)) (entry x ms pair ∷ [])
+  honest_one ms pair i v u own there is went = (
+    λ still. went.honest (λ rose. still (subst (λ (j : ℕ). RoseAt alterations j vs (set vs i u)) (sym own) (rose_here told alterations passes i vs v u there is rose))),
+    tt,
   )
+
+  -- what a step opened
+  plain_one : (event : Event) (ms : List Message) (pair : OpenedPair) → event_of s stage x ≡ Some event → (IsHonest ms → IsPlain stage.core event pair)
+      → ArePlain s style stage (entry x ms pair ∷ [])
+  plain_one event ms pair e plain = (λ honest. subst (λ (o : Option Event). IsPlainOf stage o pair) (sym e) (plain honest), some_if (next_stage s style stage x pair))
 
   -- a step that was done
   pub step_leads : (event : Event) (ms : List Message) (pair : OpenedPair) (core : Core) (reply : Reply) (i : ℕ) (v u : W) (end : Stage) → event_of s stage x ≡ Some event
       → Carries w stage.core event ms pair → step (room_of s) stage.core event pair ≡ Some (core, reply) → end ≡ with_reply s style stage x (core, reply)
       → actor_in x ≡ i → i < length vs → v ≡ get_or vs i v → Went told alterations passes v ms u → (is_answer x ≡ false → u ≡ v)
-      → ((Rose (alterations v) (alterations u) → ⊥) → IsPlain stage.core event pair) → ((Rose (alterations v) (alterations u) → ⊥) → is_altered reply ≡ false)
+      → (IsHonest ms → IsPlain stage.core event pair) → ((Rose (alterations v) (alterations u) → ⊥) → is_altered reply ≡ false)
       → Leads told alterations passes w s style stage vs (x ∷ []) end (set vs i u)
   step_leads event ms pair core reply i v u end e carries does is_end own there is went quiet plain accepted = record {
     history = entry x ms pair ∷ [];
     sent = wires_one told alterations passes none (entry x ms pair) 0 i vs v u there is (own ∙ sym (zero-add i)) went quiet;
-    plain = plain_one event ms pair i v u e own there is plain;
+    honest = honest_one ms pair i v u own there is went;
+    plain = plain_one event ms pair e plain;
     advances = (
       refl,
       subst (λ (o : Option Event). CarriesOf w s stage o (entry x ms pair)) (sym e) carries,
@@ -93,12 +98,13 @@ module _ {W : Type 0} (told : W → Option (List Message)) (alterations : W → 
   pub step_unreported : (t : ℕ) (event : Event) (ms : List Message) (pair : OpenedPair) (core : Core) (reply : Reply) (i : ℕ) (v u : W) → event_of s stage x ≡ Some event
       → Carries w stage.core event ms pair → step (room_of s) stage.core event pair ≡ Some (core, reply)
       → actor_in x ≡ i → i < length vs → v ≡ get_or vs i v → Went told alterations passes v ms u → (is_answer x ≡ false → u ≡ v)
-      → ((Rose (alterations v) (alterations u) → ⊥) → IsPlain stage.core event pair)
+      → (IsHonest ms → IsPlain stage.core event pair)
       → Stops told alterations passes w s style t stage vs (x ∷ []) (set vs i u) Memory
   step_unreported t event ms pair core reply i v u e carries does own there is went quiet plain = record {
     history = entry x ms pair ∷ [];
     sent = wires_one told alterations passes none (entry x ms pair) 0 i vs v u there is (own ∙ sym (zero-add i)) went quiet;
-    plain = plain_one event ms pair i v u e own there is plain;
+    honest = honest_one ms pair i v u own there is went;
+    plain = plain_one event ms pair e plain;
     ends = (
       refl,
       inl (
@@ -117,15 +123,16 @@ module _ {W : Type 0} (told : W → Option (List Message)) (alterations : W → 
       record {
         history = entry x ms pair ∷ [];
         sent = wires_one told alterations passes none (entry x ms pair) 0 i vs v u there is (own ∙ sym (zero-add i)) went quiet;
-        plain = plain_one event ms pair i v u e own there is (λ still. plain_is_plain stage.core event);
+        honest = honest_one ms pair i v u own there is went;
+        plain = plain_one event ms pair e (λ honest. plain_is_plain stage.core event);
         ends = (refl, inr (subst (λ (o : Option Event). BeginsOf w s stage o (entry x ms pair)) (sym e) begins, refl));
       }
 
   -- a step without a case
   pub step_refused : (t : ℕ) → HasNoCase s style stage x → Stops told alterations passes w s style t stage vs (x ∷ []) vs (NotAllowed t)
-  step_refused t never = record { history = []; sent = wires_none told alterations passes none 0 vs; plain = tt; ends = (never, omega arith, omega arith) }
+  step_refused t never = record { history = []; sent = wires_none told alterations passes none 0 vs; honest = tt; plain = tt; ends = (never, omega arith, omega arith) }
 
   pub step_refused_at : (t : ℕ) (i : ℕ) (v u : W) → HasNoCase s style stage x → v ≡ get_or vs i v → u ≡ v
       → Stops told alterations passes w s style t stage vs (x ∷ []) (set vs i u) (NotAllowed t)
   step_refused_at t i v u never is same =
-      record { history = []; sent = wires_still told alterations passes none i vs v u is same; plain = tt; ends = (never, omega arith, omega arith) }
+      record { history = []; sent = wires_still told alterations passes none i vs v u is same; honest = tt; plain = tt; ends = (never, omega arith, omega arith) }

@@ -3,7 +3,7 @@ use Rattle.std.proofs.Common.{◌≡◌, ◌∙◌, refl, sym, ap, subst, ℕ, �
 use Rattle.std.specs.List.{flat_map, range_with_len}
 use Rattle.server_rounds.specs.declared.opened.OpenedPair.{OpenedPair}
 use Rattle.table_schema.specs.declared.widths.Widths.{Widths}
-use Rattle.wire_line.specs.Carried.{NonePasses, went_none}
+use Rattle.wire_line.specs.Carried.{NonePasses, honest_none, went_none}
 use Rattle.wire_line.specs.Messages.{Went}
 use Rattle.wire_line.specs.declared.message.Message.{Message}
 use Rattle.waldo_core.specs.Answers.{Carries, IsPlain, IsQuiet}
@@ -13,7 +13,7 @@ use Rattle.waldo_core.specs.declared.events.Event.{Event}
 use Rattle.waldo_core.specs.declared.events.Event.TheVariants as events
 use Rattle.waldo_words.specs.declared.schedule.Step.{Step}
 use Rattle.schedule_play.specs.Appended.{stage_with_rows}
-use Rattle.schedule_play.specs.History.{CarriesOf, Done, IsCarried, is_answer, nothing_opened, sent_by}
+use Rattle.schedule_play.specs.History.{AreHonest, CarriesOf, Done, IsCarried, is_answer, nothing_opened, sent_by}
 use Rattle.schedule_play.specs.Leads.{Advances, IsStill, Leads}
 use Rattle.schedule_play.specs.Plain.{ArePlain, IsPlainOf}
 use Rattle.schedule_play.specs.Stages.{Stage, actor_in, event_of, first_stage, next_stage, step_of, with_reply}
@@ -76,12 +76,16 @@ module _ (w : Widths) (s : Setting) where
     subst (λ (o : Option Stage). IsSomeAnd o (λ (next : Stage). Advances w s Queries next xs (all_unasked xs) end)) (sym (go.2 nothing_opened)) (advances xs go.0 end go.3),
   )
 
-  plain : (unaltered : ℕ → Type 0) (xs : List Step) (stage end : Stage) → Goes s stage xs end → ArePlain unaltered s Queries stage (all_unasked xs)
-  plain unaltered [] stage end e = tt
-  plain unaltered (x ∷ xs) stage end go = (
-    (λ still. plain_here stage x go.1),
-    subst (λ (o : Option Stage). IfSome o (λ (next : Stage). ArePlain unaltered s Queries next (all_unasked xs))) (sym (go.2 nothing_opened)) (plain unaltered xs go.0 end go.3),
+  plain : (xs : List Step) (stage end : Stage) → Goes s stage xs end → ArePlain s Queries stage (all_unasked xs)
+  plain [] stage end e = tt
+  plain (x ∷ xs) stage end go = (
+    (λ honest. plain_here stage x go.1),
+    subst (λ (o : Option Stage). IfSome o (λ (next : Stage). ArePlain s Queries next (all_unasked xs))) (sym (go.2 nothing_opened)) (plain xs go.0 end go.3),
   )
+
+honest : (unaltered : ℕ → Type 0) (xs : List Step) → AreHonest unaltered (all_unasked xs)
+honest unaltered [] = tt
+honest unaltered (x ∷ xs) = ((λ still. honest_none), honest unaltered xs)
 
 -- the stage once all rows were appended
 with_rows_is : (s : Setting) → with_rows (all_entries s) (length s.rows) other_actors (0 ∷ other_rounds) ≡ stage_with_rows s
@@ -110,7 +114,8 @@ module _ {W : Type 0} (told : W → Option (List Message)) (alterations : W → 
       record {
         history = all_unasked xs;
         sent = wires_unasked xs 0 vs;
-        plain = plain w s (IsStill alterations vs vs) xs stage end goes;
+        honest = honest (IsStill alterations vs vs) xs;
+        plain = plain w s xs stage end goes;
         advances = advances w s xs stage end goes;
         calm = λ still. ap (λ (a : Stage). a.altered) last ∙ sym (ap (λ (a : Stage). a.altered) first);
       }

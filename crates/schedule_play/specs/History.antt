@@ -3,6 +3,7 @@ use Rattle.std.specs.Prelude.{ℕ, zero, suc, ◌≡◌, ◌==◌, ◌⊎◌, �
 use Rattle.std.specs.List.{list_any}
 use Rattle.table_schema.specs.declared.widths.Widths.{Widths}
 use Rattle.server_rounds.specs.declared.opened.OpenedPair.{OpenedPair}
+use Rattle.wire_line.specs.Messages.{IsHonest}
 use Rattle.wire_line.specs.declared.message.Message.{Message}
 use Rattle.waldo_core.specs.Answers.{Begins, Carries}
 use Rattle.waldo_core.specs.declared.events.Event.{Event}
@@ -77,6 +78,11 @@ opened_in history = λ t stage x. pair_at history t
 abbrev pub sent_by : ℕ → List Done → List Message
 sent_by actor [] = []
 sent_by actor (d ∷ ds) = if actor_in d.step == actor then d.messages ++ sent_by actor ds else sent_by actor ds
+
+-- over unaltered wires each message was received as it was sent
+abbrev pub AreHonest : (ℕ → Type 0) → List Done → Type 0
+AreHonest unaltered [] = ⊤
+AreHonest unaltered (d ∷ ds) = (unaltered (actor_in d.step) → IsHonest d.messages) × AreHonest unaltered ds
 
 -- a step that asks
 abbrev pub is_answer : Step → Bool

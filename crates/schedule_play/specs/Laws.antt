@@ -11,7 +11,7 @@ use Rattle.prg_chacha.specs.Prg.{derive_of}
 use Rattle.table_schema.specs.declared.widths.Widths.{Widths}
 use Rattle.weighted_check.specs.Check.{checked}
 use Rattle.weighted_check.specs.declared.Altered.{Altered}
-use Rattle.schedule_play.specs.History.{Done, HasHistory, opened_in, pair_at}
+use Rattle.schedule_play.specs.History.{AreHonest, Done, HasHistory, opened_in, pair_at}
 use Rattle.schedule_play.specs.Plain.{ArePlain, plain_lines, plainly}
 use Rattle.schedule_play.specs.Stages.{Stage, first_stage, played}
 use Rattle.schedule_play.specs.Tasks.{IsSetting, Setting, Task, asking}
@@ -53,7 +53,7 @@ EndsPlainly report (Err t) = ⊥
 abbrev pub AskedPlainly : Type 0
 AskedPlainly = (w : Widths) (s : Setting) → IsSetting w s → EndsPlainly (plain_lines s.rows 0 s.queries) (played (plainly s) (asking s))
 
--- Where each answer opened the plain one, steps come to what they come to plainly.
+-- Where each message was received as it was sent, and what such answers opened is plain, steps come to what they come to plainly.
 abbrev pub PlainlyPlayed : Type 0
 PlainlyPlayed = (w : Widths) (task : Task) (history : List Done) → HasHistory w task history
-    → ArePlain (λ actor. ⊤) task.setting task.style first_stage history → played (opened_in history) task ≡ played (plainly task.setting) task
+    → AreHonest (λ actor. ⊤) history → ArePlain task.setting task.style first_stage history → played (opened_in history) task ≡ played (plainly task.setting) task

@@ -3,7 +3,7 @@ use Rattle.std.specs.Prelude.{ℕ, ◌≡◌, ◌+◌, ◌<◌, IsSomeAnd, Optio
 use Rattle.table_schema.specs.declared.widths.Widths.{Widths}
 use Rattle.wire_line.specs.declared.message.Message.{Message}
 use Rattle.waldo_words.specs.declared.schedule.Step.{Step}
-use Rattle.schedule_play.specs.History.{Breaks, Done, IsCarried, IsHistory}
+use Rattle.schedule_play.specs.History.{AreHonest, Breaks, Done, IsCarried, IsHistory}
 use Rattle.schedule_play.specs.Plain.{ArePlain}
 use Rattle.schedule_play.specs.Stages.{Stage, next_stage}
 use Rattle.schedule_play.specs.Tasks.{Setting}
@@ -25,12 +25,13 @@ Advances w s style stage (x ∷ xs) (d ∷ ds) end =
 abbrev pub IsStill : {W : Type 0} → (W → ℕ) → List W → List W → ℕ → Type 0
 IsStill alterations before after actor = ¬ RoseAt alterations actor before after
 
--- the steps were done over these wires; where none of them was altered, no check refused a pair
+-- the steps were done over these wires; an unaltered one changed no message; where none was altered, no check refused a pair
 pub record Leads {W : Type 0} (told : W → Option (List Message)) (alterations : W → ℕ) (passes : W → List Message → W → Type 0)
     (w : Widths) (s : Setting) (style : Style) (stage : Stage) (before : List W) (xs : List Step) (end : Stage) (after : List W) : Type 0 where
   pub history : List Done
   pub sent : WiresWent told alterations passes history 0 before after
-  pub plain : ArePlain (IsStill alterations before after) s style stage history
+  pub honest : AreHonest (IsStill alterations before after) history
+  pub plain : ArePlain s style stage history
   pub advances : Advances w s style stage xs history end
   pub calm : ((actor : ℕ) → IsStill alterations before after actor) → end.altered ≡ stage.altered
 
@@ -44,5 +45,6 @@ pub record Stops {W : Type 0} (told : W → Option (List Message)) (alterations 
     (w : Widths) (s : Setting) (style : Style) (t : ℕ) (stage : Stage) (before : List W) (xs : List Step) (after : List W) (fault : PlayFault) : Type 0 where
   pub history : List Done
   pub sent : WiresWent told alterations passes history 0 before after
-  pub plain : ArePlain (IsStill alterations before after) s style stage history
+  pub honest : AreHonest (IsStill alterations before after) history
+  pub plain : ArePlain s style stage history
   pub ends : EndsAt w s style t stage xs history fault

@@ -9,12 +9,13 @@ use Rattle.report_lines.specs.declared.lines.Line.TheVariants as lines
 use Rattle.report_lines.specs.declared.lines.Who.TheVariants.{Single}
 use Rattle.table_schema.specs.declared.rows.Row.{Row}
 use Rattle.transcript.specs.Plain.{plain}
+use Rattle.wire_line.specs.Messages.{IsHonest}
 use Rattle.waldo_core.specs.Answers.{IsPlain, plain_pair, rows_agreed}
 use Rattle.waldo_core.specs.declared.events.Event.{Event}
 use Rattle.waldo_core.specs.declared.events.Event.TheVariants as events
 use Rattle.waldo_core.specs.Core.{Core}
 use Rattle.schedule_play.specs.History.{Done, nothing_opened}
-use Rattle.schedule_play.specs.Stages.{Opening, Stage, actor_in, event_of, next_stage}
+use Rattle.schedule_play.specs.Stages.{Opening, Stage, event_of, next_stage}
 use Rattle.schedule_play.specs.Tasks.{Setting}
 use Rattle.schedule_play.specs.declared.style.Style.{Style}
 
@@ -35,16 +36,16 @@ plain_of core (Some (events.Answer number query seed)) = plain_over core query s
 abbrev pub plainly : Setting → Opening
 plainly s = λ t stage x. plain_of stage.core (event_of s stage x)
 
--- what the answers of actors with an unaltered wire opened is plain
+-- where the messages of an answer were received as they were sent, what it opened is plain, whatever was altered before
 abbrev pub IsPlainOf : Stage → Option Event → OpenedPair → Type 0
 IsPlainOf stage None pair = ⊤
 IsPlainOf stage (Some event) pair = IsPlain stage.core event pair
 
-abbrev pub ArePlain : (ℕ → Type 0) → Setting → Style → Stage → List Done → Type 0
-ArePlain unaltered s style stage [] = ⊤
-ArePlain unaltered s style stage (d ∷ ds) =
-    (unaltered (actor_in d.step) → IsPlainOf stage (event_of s stage d.step) d.pair)
-    × IfSome (next_stage s style stage d.step d.pair) (λ (next : Stage). ArePlain unaltered s style next ds)
+abbrev pub ArePlain : Setting → Style → Stage → List Done → Type 0
+ArePlain s style stage [] = ⊤
+ArePlain s style stage (d ∷ ds) =
+    (IsHonest d.messages → IsPlainOf stage (event_of s stage d.step) d.pair)
+    × IfSome (next_stage s style stage d.step d.pair) (λ (next : Stage). ArePlain s style next ds)
 
 -- the lines of queries, the first of which has this number, each asked plainly over all rows
 abbrev pub plain_lines : List Row → ℕ → List Query → List Line

@@ -1,7 +1,7 @@
 -- What a task comes to: its messages over the wires, and its lines or the first step without a case.
 use Rattle.std.specs.Prelude.{ℕ, ◌≡◌, false, IfOk, Result, Ok, Err, List}
 use Rattle.table_schema.specs.declared.widths.Widths.{Widths}
-use Rattle.schedule_play.specs.History.{Done, HasBroken, HasHistory, opened_in}
+use Rattle.schedule_play.specs.History.{AreHonest, Done, HasBroken, HasHistory, opened_in}
 use Rattle.schedule_play.specs.Plain.{ArePlain}
 use Rattle.schedule_play.specs.Stages.{Stage, first_stage, played}
 use Rattle.schedule_play.specs.Tasks.{Task, Setting as Seen}
@@ -26,11 +26,12 @@ Ended w task history (Ok p) = HasHistory w task history × EndsWith p (played (o
 Ended w task history (Err (NotAllowed t)) = HasHistory w task history × (played (opened_in history) task ≡ Err t)
 Ended w task history (Err Memory) = HasBroken w task history
 
--- The steps sent these messages over the wires; over an unaltered wire each answer opened the plain one; this is what they came to; and where
--- no wire was altered no check refused a pair.
+-- The steps sent these messages over the wires, of which an unaltered one changed none; each answer whose messages were not changed opened the
+-- plain one; this is what they came to; and where no wire was altered no check refused a pair.
 pub record Plays (w : Widths) (task : Task) (carried : List Done → Type 0) (unaltered : ℕ → Type 0) (result : Result Played PlayFault) : Type 0 where
   pub history : List Done
   pub sent : carried history
-  pub plain : ArePlain unaltered task.setting task.style first_stage history
+  pub honest : AreHonest unaltered history
+  pub plain : ArePlain task.setting task.style first_stage history
   pub ended : Ended w task history result
   pub accepted : ((actor : ℕ) → unaltered actor) → IfOk result (λ (p : Played). p.altered ≡ false)

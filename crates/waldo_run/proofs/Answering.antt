@@ -64,4 +64,4 @@ pub answered : (command : Command) (w : Widths) (rows : List Row) (carried : Lis
 answered command w rows carried unaltered r of legal p (Err memory) is = tt
 answered command w rows carried unaltered r of legal p (Ok reply) is =
     let said = replied w (task_over command rows) p.history unaltered r p.ended p.accepted reply is in
-    (record { widths = w; of = of; legal = legal; done = said.done; plain = p.plain }, said.is, said.accepted)
+    (record { widths = w; of = of; legal = legal; done = said.done; honest = p.honest; plain = p.plain }, said.is, said.accepted)

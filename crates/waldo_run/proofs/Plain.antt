@@ -1,17 +1,16 @@
 -- Where nothing was altered the reply is the plain one.
 use Rattle.std.proofs.Common.{◌≡◌, ◌∙◌, refl, ap, ℕ, List, [], ◌∷◌}
-use Rattle.std.specs.Prelude.{⊤, IfSome, Option, Some, None, Result, Ok, Err}
+use Rattle.std.specs.Prelude.{⊤, Result, Ok, Err}
 use Rattle.row_source.specs.Input.{Reading}
 use Rattle.row_source.specs.Input.Reading.{Untouched, Whole, Long, Broken}
 use Rattle.row_source.specs.declared.faults.RowFault.{RowFault}
 use Rattle.report_lines.specs.declared.lines.Line.{Line}
 use Rattle.table_schema.specs.declared.rows.Row.{Row}
-use Rattle.schedule_play.specs.History.{Done}
+use Rattle.schedule_play.specs.History.{AreHonest, Done}
 use Rattle.schedule_play.specs.Laws.{AskedPlainly, EndsPlainly, PlainlyPlayed}
-use Rattle.schedule_play.specs.Plain.{ArePlain, plain_lines, plainly}
-use Rattle.schedule_play.specs.Stages.{Stage, first_stage, next_stage, played}
+use Rattle.schedule_play.specs.Plain.{plain_lines, plainly}
+use Rattle.schedule_play.specs.Stages.{Stage, played}
 use Rattle.schedule_play.specs.Tasks.{IsSetting, Setting, asking}
-use Rattle.schedule_play.specs.declared.style.Style.{Style}
 use Rattle.waldo_words.specs.declared.command.Command.{Command}
 use Rattle.waldo_words.specs.declared.command.Command.TheVariants as commands
 use Rattle.waldo_words.specs.declared.faults.WordFault.{WordFault}
@@ -20,15 +19,9 @@ use Rattle.waldo_run.specs.Run.{Asked, AskedIn}
 use Rattle.waldo_run.specs.Tasks.{common_in, rows_in, rows_made, setting_of, task_over}
 
 -- what holds of all wires holds without a condition
-all_plain : (unaltered : ℕ → Type 0) (s : Setting) (style : Style) (stage : Stage) (ds : List Done) → ((actor : ℕ) → unaltered actor)
-    → ArePlain unaltered s style stage ds → ArePlain (λ actor. ⊤) s style stage ds
-all_plain unaltered s style stage [] still plain = tt
-all_plain unaltered s style stage (d ∷ ds) still plain = ((λ _. plain.0 (still _)), on (next_stage s style stage d.step d.pair) plain.1 (λ next p. all_plain unaltered s style next ds still p))
-  where
-    on : (o : Option Stage) → IfSome o (λ (next : Stage). ArePlain unaltered s style next ds) → ((next : Stage) → ArePlain unaltered s style next ds → ArePlain (λ actor. ⊤) s style next ds)
-        → IfSome o (λ (next : Stage). ArePlain (λ actor. ⊤) s style next ds)
-    on None p rest = tt
-    on (Some next) p rest = rest next p
+all_honest : (unaltered : ℕ → Type 0) (ds : List Done) → ((actor : ℕ) → unaltered actor) → AreHonest unaltered ds → AreHonest (λ actor. ⊤) ds
+all_honest unaltered [] still honest = tt
+all_honest unaltered (d ∷ ds) still honest = ((λ _. honest.0 (still _)), all_honest unaltered ds still honest.1)
 
 -- rows that are asked plainly
 plain_end : (r : Result Stage ℕ) (lines : List Line) → EndsPlainly lines r → ended r ≡ record { status = 0; report = lines }
@@ -52,7 +45,7 @@ over_rows : PlainlyPlayed → AskedPlainly → (unaltered : ℕ → Type 0) → 
 over_rows same law unaltered still command history (Err fault) asked = refl
 over_rows same law unaltered still command history (Ok rows) asked =
     let task = task_over command rows in
-    ap ended (same asked.widths task history asked.done (all_plain unaltered task.setting task.style first_stage history still asked.plain))
+    ap ended (same asked.widths task history asked.done (all_honest unaltered history still asked.honest) asked.plain)
     ∙ task_plain law command rows asked.widths asked.legal
 
 pub plain_reply_to : PlainlyPlayed → AskedPlainly → (unaltered : ℕ → Type 0) → ((actor : ℕ) → unaltered actor) → (command : Result Command WordFault) (history : List Done) (reading : Reading)

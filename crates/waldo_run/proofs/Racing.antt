@@ -1,5 +1,5 @@
 -- What a race comes to.
-use Rattle.std.proofs.Common.{◌≡◌, refl, sym, ap, subst, ℕ, ◌≤◌, Bool, true, codes, cond, List, [], ◌∷◌, All, length, arith}
+use Rattle.std.proofs.Common.{◌≡◌, refl, sym, ap, subst, ℕ, ◌≤◌, Bool, true, false, codes, cond, List, [], ◌∷◌, All, length, arith}
 use Rattle.std.specs.Prelude.{Result, Ok, Err, IfOk, ok_or}
 use Rattle.std.specs.List.{list_any}
 use Rattle.std.proofs.lemmas.Slice.Eq.{bytes_eq-Decides}
@@ -24,13 +24,19 @@ use Rattle.waldo_words.specs.Words.{after_command, after_schema, beginning, comm
 use Rattle.waldo_words.specs.declared.command.Common.{Common}
 use Rattle.waldo_words.specs.declared.command.Command.{Command}
 use Rattle.waldo_words.specs.declared.command.Command.TheVariants as commands
+use Rattle.waldo_words.specs.declared.faults.WordFault.{WordFault}
 use Rattle.waldo_words.specs.declared.faults.WordFault.TheVariants.{Missing, Word}
 use Rattle.wire_line.specs.declared.message.Message.{Message}
-use Rattle.waldo_run.specs.Races.{IsRacing, RaceReplies, RacedIn, RacedOver, begin_race, crew_of, race_over}
+use Rattle.waldo_run.specs.Races.{IsRacing, RaceReplies, RacedIn, RacedOver, begin_race, command_at, crew_of, race_over}
 use Rattle.waldo_run.specs.Replies.{Reply}
 use Rattle.waldo_run.specs.Run.{Change}
 use Rattle.waldo_run.specs.Tasks.{rows_in}
+use Rattle.waldo_run.specs.Words.{command_in}
 use Rattle.waldo_run.proofs.Settings.{is_setting}
+
+-- what is said of the command of words that don't begin with `race`
+pub by_other : (P : Result Command WordFault → Type 0) (words : List (List ℕ)) → begin_race words ≡ false → P (command_in words) → P (command_at words)
+by_other P words other = subst P (sym (ap (λ (b : Bool). cond b (command_of words) (command_in words)) other))
 
 -- the setting of a race is legal
 race_legal : (c : Common) (crew : Crew) (w : Widths) (rows : List Row) → IsRace c crew.writers crew.askers crew.rounds → AreWidthsOf c.schema w → All (Holds w) rows

@@ -17,7 +17,7 @@ use Rattle.waldo_words.specs.declared.command.Command.TheVariants as commands
 use Rattle.waldo_words.specs.declared.faults.WordFault.{WordFault}
 use Rattle.waldo_words.specs.declared.faults.WordFault.TheVariants as faults
 use Rattle.waldo_run.specs.Replies.{Answering, IsRefused, Reply, Suits, after_failed_put, checked_answer, ended, plain_answer, reply_over, reply_to}
-use Rattle.waldo_run.specs.Run.{Asked, AskedIn, Change, HasSchedule, Puts, Refuses, RefusesInput, Runs, plain_reply}
+use Rattle.waldo_run.specs.Run.{Asked, AskedIn, Change, HasSchedule, Puts, Refuses, RefusesInput, Replies, Runs, plain_reply}
 use Rattle.waldo_run.specs.Tasks.{common_in, rows_in, rows_made, setting_of, task_over}
 use Rattle.waldo_run.proofs.Plain.{plain_reply_to}
 use Rattle.waldo_run.proofs.Told.{long_told, over_told, whole_told}
@@ -160,13 +160,22 @@ module _ (order : AskedInOrder) (command : Result Command WordFault) (source sin
   pub seven_of : status ≡ 7 → ((actor : ℕ) → unaltered actor) → ⊥
   seven_of e still = run.replies.accepted still (own (λ four. omega (arith, e, four)) ∙ e)
 
-pub plain_of : PlainlyPlayed → AskedPlainly → (command : Result Command WordFault) (source sink : Change) (carried : List Done → Type 0) (unaltered : ℕ → Type 0) (status : ℕ)
+-- a reply that was put is that of a run
+pub runs : PlainlyPlayed → AskedPlainly → (command : Result Command WordFault) (source sink : Change) (carried : List Done → Type 0) (unaltered : ℕ → Type 0) (status : ℕ) (reply : Reply)
+    → Replies command source carried unaltered reply → Puts reply sink status → Runs command source carried unaltered sink status
+runs same law command source sink carried unaltered status reply r puts = record {
+  reply = reply;
+  replies = r;
+  plain = λ still. r.is ∙ plain_reply_to same law unaltered still command r.history r.reading r.asked;
+  puts = puts;
+}
+
+pub plain_of : (command : Result Command WordFault) (source sink : Change) (carried : List Done → Type 0) (unaltered : ℕ → Type 0) (status : ℕ)
     → Runs command source carried unaltered sink status → (Rose source.before source.now → ⊥) → ((actor : ℕ) → unaltered actor)
     → (told : List ℕ) → source.old ≡ Some told → Puts (plain_reply command told) sink status
-plain_of same law command source sink carried unaltered status run sure still told e =
+plain_of command source sink carried unaltered status run sure still told e =
     let r = run.replies in
-    let plain = plain_reply_to same law unaltered still command r.history r.reading r.asked in
-    subst (λ reply. Puts reply sink status) (r.is ∙ plain ∙ over_told plain_answer command r.reading source told r.suits r.reads sure e) run.puts
+    subst (λ reply. Puts reply sink status) (run.plain still ∙ over_told plain_answer command r.reading source told r.suits r.reads sure e) run.puts
 
 pub if_some : (o : Option (List ℕ)) (P : List ℕ → Type 0) → ((x : List ℕ) → o ≡ Some x → P x) → IfSome o P
 if_some None P f = tt

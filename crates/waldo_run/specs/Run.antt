@@ -10,7 +10,7 @@ use Rattle.ring128.specs.declared.memory.Memory.{Memory}
 use Rattle.row_source.specs.declared.faults.RowFault.{RowFault}
 use Rattle.table_schema.specs.declared.rows.Row.{Row}
 use Rattle.table_schema.specs.declared.widths.Widths.{Widths}
-use Rattle.schedule_play.specs.History.{Done, HasBroken, HasHistory}
+use Rattle.schedule_play.specs.History.{AreHonest, Done, HasBroken, HasHistory}
 use Rattle.schedule_play.specs.Plain.{ArePlain}
 use Rattle.schedule_play.specs.Stages.{first_stage}
 use Rattle.schedule_play.specs.Tasks.{IsSetting}
@@ -30,14 +30,15 @@ pub record Change : Type 0 where
 abbrev pub change : {A : Type 0} → (A → Option (List ℕ)) → (A → ℕ) → A → A → Change
 change told faults before now = record { old = told before; new = told now; before = faults before; now = faults now }
 
--- The steps of a command over its rows, with the messages of each answer and what they opened. What answers over an unaltered wire
--- opened is plain.
+-- The steps of a command over its rows, with the messages of each answer and what they opened. An unaltered wire changed no message; and
+-- each answer whose messages were not changed opened the plain one, whatever was altered before.
 pub record AskedOver (unaltered : ℕ → Type 0) (command : Command) (history : List Done) (rows : List Row) : Type 0 where
   pub widths : Widths
   pub of : AreWidthsIn command widths
   pub legal : IsSetting widths (task_over command rows).setting
   pub done : HasHistory widths (task_over command rows) history
-  pub plain : ArePlain unaltered (task_over command rows).setting (task_over command rows).style first_stage history
+  pub honest : AreHonest unaltered history
+  pub plain : ArePlain (task_over command rows).setting (task_over command rows).style first_stage history
 
 -- the same where the rows may have a fault: then no step was done
 abbrev pub AskedIn : (ℕ → Type 0) → Command → List Done → Result (List Row) RowFault → Type 0
@@ -107,10 +108,11 @@ Puts reply sink status =
     ((status ≡ reply.status) × Appends sink.old sink.new (text_of reply.report) × (sink.now ≡ sink.before))
     ⊎ ((status ≡ after_failed_put reply.status) × AppendsFront sink.old sink.new (text_of reply.report) × Rose sink.before sink.now)
 
--- The whole run, but for want of memory: some reply to what reading gave, put into the sink.
+-- The whole run, but for want of memory: some reply to what reading gave, put into the sink. Where no wire was altered it is the plain one.
 pub record Runs (command : Result Command WordFault) (source : Change) (carried : List Done → Type 0) (unaltered : ℕ → Type 0) (sink : Change) (status : ℕ) : Type 0 where
   pub reply : Reply
   pub replies : Replies command source carried unaltered reply
+  pub plain : ((actor : ℕ) → unaltered actor) → reply ≡ reply_to plain_answer command replies.reading
   pub puts : Puts reply sink status
 
 -- nothing was put

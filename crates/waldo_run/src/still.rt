@@ -165,7 +165,9 @@ pub fn run_still<R: Threads + Sync, S: Source, K: Sink, W: Wire>(
     ensures memory { result ≡ 6 → IsUnchanged (change K.taken K.fault_count sink.old sink.new) }
     ensures broken { result ≡ 6 → Breaks (command_in (map string_bytes words.now)) (change S.left S.fault_count source.old source.new) (λ history. WiresWent W.told W.alterations W.passes history 0 wires.old.items wires.new.items) }
     // Else the source was met in one of four ways, each answer's messages went over its actor's wire, and the reply to the words, to what
-    // was read and to what the answers opened was put: the replies of the core to the command's steps, in order.
+    // was read and to what the answers opened was put: the replies of the core to the command's steps, in order. An answer whose messages
+    // were received as they were sent is the plain one, whatever was altered before; and where no wire was altered the reply is the plain
+    // one to what was read, whether or not the source tells its bytes.
     ensures run { result ≢ 6 → Runs (command_in (map string_bytes words.now)) (change S.left S.fault_count source.old source.new) (λ history. WiresWent W.told W.alterations W.passes history 0 wires.old.items wires.new.items) (λ actor. ¬ RoseAt W.alterations actor wires.old.items wires.new.items) (change K.taken K.fault_count sink.old sink.new) result }
     // Where the source tells its bytes, no read failed and nothing was altered, the reply is the plain one, a function of the
     // words and of these bytes.

@@ -1,4 +1,4 @@
-use Rattle.std.proofs.Common.{rules, ℕ, ◌∙◌, refl, sym, ap, subst, Err, arith}
+use Rattle.std.proofs.Common.{ℕ, ◌∙◌, refl, sym, ap, subst, Err, arith}
 use Rattle.std.proofs.lemmas.Result.{err_from_is_err_and}
 use Rattle.table_schema.specs.declared.widths.Widths.{Widths}
 use Rattle.waldo_core.specs.Answers.{Begins, Carries}
@@ -42,7 +42,7 @@ returns-in_err-count-in-Ok-clause-stops g c =
     (subst (λ (w : Widths). Carries w stage.core c.in-Some.event h.0 h.1) c.requires.ready.widths h.3.1)
     (sym (ap (λ (n : ℕ). step_at n stage.core c.in-Some.event h.1) c.requires.ready.capacity) ∙ h.3.2)
     (sym (c.from.ensures ∙ c.actor_in-actor.ensures)) (omega (arith, c.requires.wires, c.from.ensures, c.if-actor-ge-ACTORS.false)) c.index_mut-wire.ensures.value
-    h.2 (λ still. c.in-Ok.ensures.quiet (event_quiet s stage c.args.step c.in-Some.event e still)) (λ still. (h.4 (h.2.honest still)).0))
+    h.2 (λ still. c.in-Ok.ensures.quiet (event_quiet s stage c.args.step c.in-Some.event e still)) (λ honest. (h.4 honest).0))
 
 pub returns-in_ok-count-in-Ok-clause-ready : goal.returns-in_ok-count-in-Ok-clause-ready
 returns-in_ok-count-in-Ok-clause-ready g c =
@@ -62,7 +62,7 @@ returns-in_ok-count-in-Ok-clause-leads g c =
     (subst (λ (w : Widths). Carries w stage.core c.in-Some.event h.0 h.1) c.requires.ready.widths h.3.1)
     (sym (ap (λ (n : ℕ). step_at n stage.core c.in-Some.event h.1) c.requires.ready.capacity) ∙ h.3.2) c.in_ok-count-in-Ok.ensures.stage
     (sym (c.from.ensures ∙ c.actor_in-actor.ensures)) (omega (arith, c.requires.wires, c.from.ensures, c.if-actor-ge-ACTORS.false)) c.index_mut-wire.ensures.value
-    h.2 (λ still. c.in-Ok.ensures.quiet (event_quiet s stage c.args.step c.in-Some.event e still)) (λ still. (h.4 (h.2.honest still)).0) (λ still. c.in-Ok.ensures.accepted still)
+    h.2 (λ still. c.in-Ok.ensures.quiet (event_quiet s stage c.args.step c.in-Some.event e still)) (λ honest. (h.4 honest).0) (λ still. c.in-Ok.ensures.accepted still)
 
 pub returns-in-Err-NotAllowed-clause-stops : goal.returns-in-Err-NotAllowed-clause-stops
 returns-in-Err-NotAllowed-clause-stops g c =
