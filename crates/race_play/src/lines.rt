@@ -9,10 +9,7 @@ use table_schema::Aggregate;
 use waldo_table::{AgreeFault, Agreed, Answered, AskFault};
 
 // The line of a writer for what its agreement came to.
-pub(crate) fn line_of_back(
-    writer: u8,
-    agreed: Result<Agreed, AgreeFault>,
-) -> Result<Line, Memory>
+pub(crate) fn line_of_back(writer: u8, agreed: Result<Agreed, AgreeFault>) -> Result<Line, Memory>
     ensures { result ≡ line_of_back writer agreed }
 {
     match agreed {

@@ -80,7 +80,7 @@ pub fn ask_round<R: Threads + Wait + Sync, W: Wire, G: Gate>(
     ensures covered { IfOk result (λ _. IsCovered pass.new) }
     ensures asks { (ms : List Message) × (pair : OpenedPair) × Went W.told W.alterations W.passes wire.old ms wire.new
         × IfOk result (Asks table.now.widths pass.old pass.new (who.Round asker round) query.now
-            (derive_of master.now 2 asker round) ms pair) }
+        (derive_of master.now 2 asker round) ms pair) }
     ensures plain { ¬ Rose (W.alterations wire.old) (W.alterations wire.new)
         → IfOk result (IsPlainLine table.now.widths pass.new (who.Round asker round) query.now) }
 {

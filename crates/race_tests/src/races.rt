@@ -117,7 +117,10 @@ fn a_race(rt: HostRuntime) -> Result<(), Memory> {
         assert_eq!(rt; wires.len(), 3);
         let ran = run(&rt, alloc, &mut wires)?;
         let ends = b"end 0 rows 6 count 3\nend 1 rows 6 sum 21\n";
-        assert_eq!(rt; outcome_of(alloc, &ran, b"rows 6\nplace 0 row ", ends)?, wanted);
+        assert_eq!(rt;
+            outcome_of(alloc, &ran, b"rows 6\nplace 0 row ", ends)?,
+            wanted
+        );
         assert_eq!(rt; wires.len(), 3);
         let carried = [
             wires[0].messages().len(),
@@ -179,6 +182,9 @@ fn a_race_with_an_altered_message(rt: HostRuntime) -> Result<(), Memory> {
         ends: true,
         altered: true,
     };
-    assert_eq!(rt; outcome_of(alloc, &ran, b"rows 6\n", ends.as_slice())?, wanted);
+    assert_eq!(rt;
+        outcome_of(alloc, &ran, b"rows 6\n", ends.as_slice())?,
+        wanted
+    );
     Ok(())
 }

@@ -12,6 +12,9 @@ pub(crate) const INPUT: &str = "host,value\n3,10\n1,20\n3,5\n";
 
 const COUNT: &str = "ask|host:2|--query|count host=3";
 
+// A schedule whose step prints no line.
+const NOTHING_SAID: &str = "replay|host:2|--query|count host=3|--schedule|f0";
+
 const TIME: &str = "ask|time:8@1700000000/3600|--query|count time=1700000000";
 
 /// Words, an input, the status and the text that is put.
@@ -359,9 +362,13 @@ fn answers_and_refusals(rt: HostRuntime) -> Result<(), Fail> {
 #[test]
 fn faults(rt: HostRuntime) -> Result<(), Fail> {
     let alloc = rt.alloc();
-    let cases: [(Case, &[u64], &[u64]); 3] = [
+    let count = (COUNT, INPUT, 0, "ask 0 rows 3 count 2\n");
+    let cases: [(Case, &[u64], &[u64]); 6] = [
         ((COUNT, INPUT, 3, "waldo: read fault\n"), &[1], &[]),
+        (count, &[2], &[]), // nothing is read after the end
         ((COUNT, INPUT, 4, ""), &[], &[0]),
+        (count, &[], &[1]), // the text is put in one piece
+        ((NOTHING_SAID, "host,value\n", 4, ""), &[], &[0]), // and so is an empty one
         (("ask|host:9", INPUT, 2, ""), &[0], &[0]),
     ];
     for (case, reads, puts) in &cases {
