@@ -58,12 +58,15 @@ module _ (known : PlainIsSmall) (w : Widths) (s : Setting) (legal : IsSetting w 
       let most : max 1 (length s.rows) ≤ 65536 = legal.fits.1 in
       let small = known w query s.rows legal.held (omega arith) in omega (arith, small.1)
 
-  verdict : (q : ℕ) (query : Query) → slice_get s.queries q ≡ Some query → check_of s q query (pairs_of s q) ≡ Ok (word_of (plain query s.rows))
-  verdict q query query_is =
+  -- what the check says of the plain pair
+  pub plain_verdict : (q : ℕ) (query : Query) → check_of s q query (plain_pair (all_entries s) (length s.rows) query (derive_of s.master 2 0 q)) ≡ Ok (word_of (plain query s.rows))
+  plain_verdict q query =
       let key = key_from (weights_of (derive_of s.master 2 0 q) 1) query.count in
-      ap (check_of s q query) (opened_plainly s q query query_is)
-      ∙ ap (λ (rows : List Row). checked (word_of (plain query rows)) (times key (word_of (plain query rows))) key) (all_back s)
+      ap (λ (rows : List Row). checked (word_of (plain query rows)) (times key (word_of (plain query rows))) key) (all_back s)
       ∙ accepted (word_of (plain query s.rows)) key (answer_small query)
+
+  verdict : (q : ℕ) (query : Query) → slice_get s.queries q ≡ Some query → check_of s q query (pairs_of s q) ≡ Ok (word_of (plain query s.rows))
+  verdict q query query_is = ap (check_of s q query) (opened_plainly s q query query_is) ∙ plain_verdict q query
 
   all_plain : (rest : List Query) (q : ℕ) → ((k : ℕ) → slice_get s.queries (q + k) ≡ slice_get rest k)
       → (asked_lines s (pairs_of s) q rest ≡ plain_lines s.rows q rest) × (some_refused s (pairs_of s) q rest ≡ false)

@@ -47,13 +47,13 @@ EndsIn report altered (Ok stage) = (stage.lines ≡ report) × (stage.altered �
 EndsIn report altered (Err t) = ⊥
 
 -- no fix is under way
-abbrev IsIdle : Fixes → Type 0
+abbrev pub IsIdle : Fixes → Type 0
 IsIdle Unfixed = ⊤
 IsIdle (First p) = ⊥
 IsIdle (Second p q) = ⊥
 IsIdle (Agreed n) = ⊤
 
-or_none : (b : Bool) → (b || false) ≡ b
+pub or_none : (b : Bool) → (b || false) ≡ b
 or_none true = refl
 or_none false = refl
 
@@ -100,7 +100,7 @@ module _ (s : Setting) (order : List (Row × Seed)) (j : List ℕ) (n : ℕ) (ot
   answer_line lines altered q query (Ok total) query_is = rw query_is refl
   answer_line lines altered q query (Err pair) query_is = refl
 
-  answers : (lines : List Line) (altered : Bool) (q : ℕ) (query : Query) (pair : OpenedPair) → slice_get s.queries q ≡ Some query
+  pub answers : (lines : List Line) (altered : Bool) (q : ℕ) (query : Query) (pair : OpenedPair) → slice_get s.queries q ≡ Some query
       → next_stage s Queries (with_fixes order j n others (Agreed n) (q ∷ rounds) lines altered) (steps.Answer 0 q) pair
       ≡ Some (with_fixes order j n others (Agreed n) ((q + 1) ∷ rounds) (lines ++ checked_line n q query (check_of s q query pair) ∷ [])
       (altered || is_refused (check_of s q query pair)))

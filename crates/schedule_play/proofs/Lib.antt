@@ -1,5 +1,6 @@
 pub mod Advancing
 pub mod AppendedRows
+pub mod AskedHonest
 pub mod AskedPlain
 pub mod AskedQueries
 pub mod Cases

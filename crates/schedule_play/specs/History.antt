@@ -71,6 +71,12 @@ pair_at [] t = nothing_opened
 pair_at (d ∷ ds) zero = d.pair
 pair_at (d ∷ ds) (suc t) = pair_at ds t
 
+-- what messages each step sent
+abbrev pub messages_at : List Done → ℕ → List Message
+messages_at [] t = []
+messages_at (d ∷ ds) zero = d.messages
+messages_at (d ∷ ds) (suc t) = messages_at ds t
+
 abbrev pub opened_in : List Done → Opening
 opened_in history = λ t stage x. pair_at history t
 

@@ -1,5 +1,5 @@
 -- What the definitions say together.
-use Rattle.std.specs.Prelude.{ℕ, ◌≡◌, ◌+◌, ◌*◌, ⊤, false, Result, Ok, Err, List, [], ◌∷◌, length}
+use Rattle.std.specs.Prelude.{ℕ, ◌≡◌, ◌+◌, ◌*◌, ⊤, false, Some, Result, Ok, Err, List, [], ◌∷◌, length, slice_get}
 use Rattle.query_plan.specs.Seeds.{weights_of}
 use Rattle.query_plan.specs.Views.{key_from}
 use Rattle.query_plan.specs.declared.query.Query.{Query}
@@ -9,11 +9,16 @@ use Rattle.report_lines.specs.declared.lines.Who.TheVariants.{Single}
 use Rattle.server_rounds.specs.declared.opened.OpenedPair.{OpenedPair}
 use Rattle.prg_chacha.specs.Prg.{derive_of}
 use Rattle.table_schema.specs.declared.widths.Widths.{Widths}
+use Rattle.onehot_column.specs.Code.{word_of}
+use Rattle.transcript.specs.Plain.{plain}
+use Rattle.wire_line.specs.Messages.{IsHonest}
+use Rattle.wire_line.specs.declared.message.Message.{Message}
 use Rattle.weighted_check.specs.Check.{checked}
 use Rattle.weighted_check.specs.declared.Altered.{Altered}
-use Rattle.schedule_play.specs.History.{AreHonest, Done, HasHistory, opened_in, pair_at}
+use Rattle.schedule_play.specs.History.{AreHonest, Done, HasHistory, messages_at, opened_in, pair_at}
 use Rattle.schedule_play.specs.Plain.{ArePlain, plain_lines, plainly}
 use Rattle.schedule_play.specs.Stages.{Stage, first_stage, played}
+use Rattle.schedule_play.specs.declared.style.Style.TheVariants.{Queries}
 use Rattle.schedule_play.specs.Tasks.{IsSetting, Setting, Task, asking}
 
 -- the line of query i over n rows, by what the check says
@@ -53,7 +58,23 @@ EndsPlainly report (Err t) = ⊥
 abbrev pub AskedPlainly : Type 0
 AskedPlainly = (w : Widths) (s : Setting) → IsSetting w s → EndsPlainly (plain_lines s.rows 0 s.queries) (played (plainly s) (asking s))
 
+-- the messages of query i
+abbrev pub messages_of_query : Setting → List Done → ℕ → List Message
+messages_of_query s history i = messages_at history (4 * length s.rows + 4 * i + 3)
+
+-- the last stage has this line at place i
+abbrev pub HasLine : ℕ → Line → Result Stage ℕ → Type 0
+HasLine i line (Ok stage) = slice_get stage.lines i ≡ Some line
+HasLine i line (Err t) = ⊥
+
+-- A query whose messages were received as they were sent has its plain answer in its line, whatever was altered in the others.
+abbrev pub AskedHonestly : Type 0
+AskedHonestly = (w : Widths) (s : Setting) (history : List Done) → IsSetting w s → HasHistory w (asking s) history → ArePlain s Queries first_stage history
+    → (i : ℕ) (query : Query) → slice_get s.queries i ≡ Some query → IsHonest (messages_of_query s history i)
+    → HasLine i (lines.Answer (Single i) (length s.rows) query.aggregate (word_of (plain query s.rows))) (played (opened_in history) (asking s))
+
 -- Where each message was received as it was sent, and what such answers opened is plain, steps come to what they come to plainly.
 abbrev pub PlainlyPlayed : Type 0
 PlainlyPlayed = (w : Widths) (task : Task) (history : List Done) → HasHistory w task history
-    → AreHonest (λ actor. ⊤) history → ArePlain task.setting task.style first_stage history → played (opened_in history) task ≡ played (plainly task.setting) task
+    → AreHonest (λ actor. ⊤) history → ArePlain task.setting task.style first_stage history
+    → played (opened_in history) task ≡ played (plainly task.setting) task

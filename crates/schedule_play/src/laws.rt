@@ -1,6 +1,6 @@
 //! What the definitions say together, as functions without effect.
 
-ghost use Rattle.schedule_play.specs.Laws.{AskedInOrder, AskedPlainly, PlainlyPlayed};
+ghost use Rattle.schedule_play.specs.Laws.{AskedHonestly, AskedInOrder, AskedPlainly, PlainlyPlayed};
 
 /// Where rows are appended one after another and then asked each query, no step is without a case, and each query has one
 /// line, over all rows, by what its answer opened.
@@ -13,6 +13,14 @@ pub fn asked_plainly()
     ensures { AskedPlainly }
 {
     transcript::laws::plain_is_small();
+}
+
+/// A query whose messages were received as they were sent has its plain answer in its line, whatever was altered in the others.
+pub fn asked_honestly()
+    ensures { AskedHonestly }
+{
+    transcript::laws::plain_is_small();
+    asked_in_order();
 }
 
 /// Steps each of whose answers opened the plain one come to what they come to plainly.
