@@ -120,7 +120,9 @@ wait_for() {
 # The fakes sleep for a minute, which nothing waits for.
 check_signals() {
   local signal child launcher start=$SECONDS
-  for signal in TERM:143 HUP:129; do
+  local signals=TERM:143
+  [[ $(trap -p HUP) ]] || signals+=" HUP:129" # a caller that ignores HUP, such as nohup, hands that on
+  for signal in $signals; do
     rm -f "$room/ran"
     SLEEP=yes "$tree/waldo" ask host:2 >/dev/null 2>&1 </dev/null &
     launcher=$!
