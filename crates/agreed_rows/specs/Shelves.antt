@@ -18,7 +18,7 @@ pub record ArePartsOf (whole : Held) (parts : List Held) : Type 0 where
   pub columns : All (λ (h : Held). h.columns ≡ whole.columns) parts
   pub order : GoOn whole.start parts
 
--- a shelf of so many rows of these widths, from chunk 0 on
+-- a shelf of `n` rows of these widths, from chunk 0 on
 pub record AreRowsOf (w : Widths) (n : ℕ) (h : Held) : Type 0 where
   pub rows : h.rows ≡ n
   pub start : h.start ≡ 0
