@@ -46,8 +46,8 @@ impl Agreement {
         self.zero.rows()
     }
 
-    // The rows as shelves, at each server as many as there are workers. The only error is want of memory.
-    fn shelves(&self, alloc: Global, workers: u8) -> Result<Servers<Snapshot>, Memory>
+    // The rows as shelves, at each server as many as there are workers. The only error is out of memory.
+    pub(crate) fn shelves(&self, alloc: Global, workers: u8) -> Result<Servers<Snapshot>, Memory>
         requires { 0 < workers }
         ensures zero { IfOk result (λ s. ArePartsOf (⟦<Snapshot as Shelf>⟧.held self.now.zero) (map ⟦<Snapshot as Shelf>⟧.held s.zero.items)) }
         ensures one { IfOk result (λ s. ArePartsOf (⟦<Snapshot as Shelf>⟧.held self.now.one) (map ⟦<Snapshot as Shelf>⟧.held s.one.items)) }
