@@ -47,7 +47,7 @@ impl Agreement {
     }
 
     // The rows as shelves, at each server as many as there are workers. The only error is out of memory.
-    fn shelves(&self, alloc: Global, workers: u8) -> Result<Servers<Snapshot>, Memory>
+    pub(crate) fn shelves(&self, alloc: Global, workers: u8) -> Result<Servers<Snapshot>, Memory>
         requires { 0 < workers }
         ensures zero { IfOk result (λ s. ArePartsOf (⟦<Snapshot as Shelf>⟧.held self.now.zero)
             (map ⟦<Snapshot as Shelf>⟧.held s.zero.items)) }

@@ -296,8 +296,8 @@ impl Machine {
         Ok(Some(reply))
     }
 
-    // What an actor agreed on.
-    fn agreed(&self, number: u8) -> Option<&Agreed>
+    /// The rows that an actor agreed on: the first ones of the order, as the three servers hold them. `None` where it has no agreement.
+    pub fn agreed(&self, number: u8) -> Option<&Agreed>
         ensures none { IfNone result (rows_agreed (slice_get self.now.core.actors number) ≡ None) }
         ensures some { IfSome result (λ a. IsAgreedBy self.now number a.now) }
     {
