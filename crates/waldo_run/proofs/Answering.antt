@@ -16,7 +16,7 @@ use Rattle.waldo_run.specs.Replies.{IsReplyOf, Reply, checked_answer, ended, rep
 use Rattle.waldo_run.specs.Run.{AskedOver, BegunOver}
 use Rattle.waldo_run.specs.Tasks.{AreWidthsIn, task_over}
 use Rattle.waldo_run.proofs.Begun.{all_begun}
-use Rattle.waldo_run.proofs.Reported.{reported_status}
+use Rattle.waldo_run.proofs.Tracing.{reported_status}
 
 -- the steps that were done are the first ones
 broken : (w : Widths) (task : Task) (history : List Done) (r : Result Played PlayFault) → Ended w task history r → HasBroken w task history

@@ -1,46 +1,62 @@
--- The reply to a command's steps, as the command reports it.
-use Rattle.std.proofs.Common.{◌≡◌, ◌∙◌, refl, sym, ap, ℕ, ◌≤◌, List, All, length, map, arith}
-use Rattle.query_plan.specs.Query.{AreWidthsOf, shaped}
-use Rattle.query_plan.specs.declared.query.Query.{Query}
-use Rattle.report_lines.specs.declared.lines.Line.{Line}
-use Rattle.table_schema.specs.declared.rows.Row.{Row}
-use Rattle.table_schema.specs.declared.widths.Widths.{Widths}
-use Rattle.waldo_words.specs.Legal.{IsCommon}
-use Rattle.waldo_words.specs.declared.command.Common.{Common}
+-- What was read of a source that reports its bytes.
+use Rattle.std.proofs.Common.{◌≡◌, ◌≢◌, ℕ, ◌<◌, ◌≤◌, Bool, true, false, cond, nat_le, List, ◌++◌, length, refl, sym, ◌∙◌, ap, subst, arith, append-nil, length-append}
+use Rattle.std.specs.Prelude.{MatchBool, Option, None, Some, Result, Ok, Err}
+use Rattle.std.specs.Io.KnownBytes.{Consumes, IsAtEnd}
+use Rattle.fault_count.specs.Causes.{Rose}
+use Rattle.row_source.specs.Input.{Reading, Reads, most_bytes}
+use Rattle.row_source.specs.Input.Reading.{Untouched, Whole, Long, Broken}
 use Rattle.waldo_words.specs.declared.command.Command.{Command}
-use Rattle.waldo_words.specs.declared.command.Command.TheVariants as commands
-use Rattle.waldo_run.specs.Replies.{Reply, reported}
-use Rattle.waldo_run.specs.Tasks.{bits_of}
-use Rattle.waldo_run.specs.Traces.{HasFew, noted_over, traced}
-use Rattle.waldo_run.specs.declared.seen.Noted.{Noted}
+use Rattle.waldo_words.specs.declared.faults.WordFault.{WordFault}
+use Rattle.waldo_run.specs.Replies.{Answering, Suits, reply_to}
+use Rattle.waldo_run.specs.Run.{reading_by, reading_of}
+use Rattle.waldo_run.specs.Tasks.{reads_input}
+use Rattle.fault_count.specs.Streams.{Change}
 
--- the status stays
-pub reported_status : (command : Command) (rows : List Row) (reply : Reply) → (reported command rows reply).status ≡ reply.status
-reported_status (commands.Ask c) rows reply = refl
-reported_status (commands.Replay c schedule) rows reply = refl
-reported_status (commands.Race c writers askers rounds) rows reply = refl
-reported_status (commands.Make c number count) rows reply = refl
-reported_status (commands.Trace c) rows reply = refl
-reported_status (commands.Tamper c shifts) rows reply = refl
+-- where the source reports its bytes, what was read is these
+pub whole_reported : (left now : Option (List ℕ)) (bs reported : List ℕ) → Consumes left now bs → IsAtEnd now → left ≡ Some reported → bs ≡ reported
+whole_reported None now bs reported c end e = cc
+whole_reported (Some xs) None bs reported c end e = absurd c
+whole_reported (Some xs) (Some ys) bs reported c end e =
+    let all : xs ≡ bs = c ∙ ap (λ l. bs ++ l) end ∙ append-nil bs in
+    let known : xs ≡ reported = cc in
+    sym all ∙ known
 
--- queries that are legal have 1 to 4 predicates
-pub few_predicates : (c : Common) (w : Widths) → IsCommon c → AreWidthsOf c.schema w → All HasFew c.queries
-few_predicates c w common of = λ n d lt. let suits = common.suits n d lt w of in (suits.some, suits.few)
+pub long_reported : (left now : Option (List ℕ)) (bs reported : List ℕ) → Consumes left now bs → left ≡ Some reported → length bs ≤ length reported
+long_reported None now bs reported c e = cc
+long_reported (Some xs) None bs reported c e = absurd c
+long_reported (Some xs) (Some ys) bs reported c e =
+    let known : xs ≡ reported = cc in
+    rw (← known, c) (omega (arith, length-append bs ys))
 
--- a capacity is within the limits
-pub few_rows : (c : Common) (n : ℕ) → IsCommon c → n ≤ c.capacity → n ≤ 65536
-few_rows c n common few = omega (arith, few, common.fits.1)
+short_reading : (bytes : List ℕ) (b : Bool) → nat_le (length bytes) most_bytes ≡ b → length bytes ≤ most_bytes → cond b (Whole bytes) Long ≡ Whole bytes
+short_reading bytes true e h = refl
+short_reading bytes false e h = absurd (grind arith)
 
--- the reply of `trace`, as the code makes it
-pub traced_reply : (command : Command) (c : Common) (rows : List Row) (reply made : Reply) (bits : List ℕ) (n : ℕ) (qs : List Query) (seen told : List Noted) (lines report : List Line) (status : ℕ)
-    → command ≡ commands.Trace c → bits ≡ bits_of c → n ≡ length rows → qs ≡ c.queries → seen ≡ map (λ (q : Query). noted_over bits n (shaped q)) qs
-    → told ≡ seen → lines ≡ reply.report → report ≡ traced 0 told lines → status ≡ reply.status → made ≡ record { status = status; report = report }
-    → made ≡ reported command rows reply
-traced_reply command c rows reply made bits n qs seen told lines report status is same_bits same_rows same_queries are told_is lines_are report_is status_is made_is =
-    let over : List ℕ → ℕ → List Query → List Noted = λ b m l. map (λ (q : Query). noted_over b m (shaped q)) l in
-    let all : seen ≡ over (bits_of c) (length rows) c.queries =
-    are ∙ ap (λ (b : List ℕ). over b n qs) same_bits ∙ ap (λ (m : ℕ). over (bits_of c) m qs) same_rows ∙ ap (over (bits_of c) (length rows)) same_queries in
-    let text : report ≡ traced 0 (over (bits_of c) (length rows) c.queries) reply.report =
-    report_is ∙ ap (λ (s : List Noted). traced 0 s lines) (told_is ∙ all) ∙ ap (traced 0 (over (bits_of c) (length rows) c.queries)) lines_are in
-    let with_both : ℕ → List Line → Reply = λ s l. record { status = s; report = l } in
-    made_is ∙ ap (λ (s : ℕ). with_both s report) status_is ∙ ap (with_both reply.status) text ∙ sym (ap (λ (x : Command). reported x rows reply) is)
+long_reading : (bytes : List ℕ) (b : Bool) → nat_le (length bytes) most_bytes ≡ b → most_bytes < length bytes → cond b (Whole bytes) Long ≡ Long
+long_reading bytes true e h = absurd (grind arith)
+long_reading bytes false e h = refl
+
+-- the reading over reported bytes, where no read failed
+read_reported : (reading : Reading) (source : Change) (reported : List ℕ) → reading ≢ Untouched
+    → Reads most_bytes reading source → (Rose source.before source.now → ⊥) → source.old ≡ Some reported → reading ≡ reading_of reported
+read_reported Untouched source reported some reads sure e = absurd (some refl)
+read_reported (Whole bytes) source reported some reads sure e =
+    let same : bytes ≡ reported = whole_reported source.old source.new bytes reported reads.1 reads.2 e in
+    let few : length reported ≤ most_bytes = subst (λ bs. length bs ≤ most_bytes) same reads.0 in
+    ap Whole same ∙ sym (short_reading reported _ refl few)
+read_reported Long source reported some reads sure e =
+    let many : most_bytes < length reported = omega (arith, long_reported source.old source.new reads.0 reported reads.2 e, reads.1) in
+    sym (long_reading reported _ refl many)
+read_reported Broken source reported some reads sure e = absurd (sure reads)
+
+suits_reported : (command : Command) (reading : Reading) (b : Bool) (reported : List ℕ) → (reading ≢ Untouched → reading ≡ reading_of reported)
+    → MatchBool b (reading ≢ Untouched) (reading ≡ Untouched) → reading ≡ cond b (reading_of reported) Untouched
+suits_reported command reading true reported f suits = f suits
+suits_reported command reading false reported f suits = suits
+
+pub over_reported : (answer : Answering) (command : Result Command WordFault) (reading : Reading) (source : Change) (reported : List ℕ) → Suits command reading
+    → Reads most_bytes reading source → (Rose source.before source.now → ⊥) → source.old ≡ Some reported
+    → reply_to answer command reading ≡ reply_to answer command (reading_by command reported)
+over_reported answer (Err fault) reading source reported suits reads sure e = refl
+over_reported answer (Ok command) reading source reported suits reads sure e =
+    ap (reply_to answer (Ok command)) (suits_reported command reading (reads_input command) reported (λ some. read_reported reading source reported some reads sure e) suits)

@@ -1,7 +1,7 @@
 use Rattle.std.proofs.Common.{◌∙◌, refl, ap, ℕ, take}
 use Rattle.waldo_words.specs.declared.command.Command.{Command}
 use Rattle.waldo_run.specs.Tasks.{bits_of, common_in}
-use Rattle.waldo_run.proofs.Reported.{traced_reply}
+use Rattle.waldo_run.proofs.Tracing.{traced_reply}
 use Rattle.waldo_run.proofs.task.reported.Goals as goal
 
 pub returns-in_ok-report-in-Trace : goal.returns-in_ok-report-in-Trace
