@@ -499,7 +499,13 @@ fn alterations(rt: HostRuntime) -> Result<(), Fail> {
                 "trace|host:2|--query|count host=3|--query|sum host<=1",
                 INPUT,
                 7,
-                "ask 0 rows 3 altered total 3 weighted 22373722559603869626\ntrace 0 server 0 visits 2 words 54\ntrace 0 server 1 visits 2 words 54\ntrace 0 server 2 visits 2 words 54\ntrace 1 server 0 visits 4 words 62\ntrace 1 server 1 visits 4 words 62\ntrace 1 server 2 visits 4 words 62\n",
+                "ask 0 rows 3 altered total 3 weighted 22373722559603869626\n\
+                 trace 0 server 0 visits 2 words 54\n\
+                 trace 0 server 1 visits 2 words 54\n\
+                 trace 0 server 2 visits 2 words 54\n\
+                 trace 1 server 0 visits 4 words 62\n\
+                 trace 1 server 1 visits 4 words 62\n\
+                 trace 1 server 2 visits 4 words 62\n",
             ),
             &[(6, 1)],
         ),
@@ -607,7 +613,7 @@ fn chunks_and_workers(rt: HostRuntime) -> Result<(), Fail> {
     Ok(())
 }
 
-// So many rows, each of this text.
+// This many rows, each of this text.
 fn rows_alike(alloc: Global, rows: u64, row: &str) -> Result<String, Memory> {
     let mut text = String::from_str(alloc, "host,value\n")?;
     for _ in 0..rows {

@@ -1,5 +1,5 @@
 //! How much servers see of a query, from numbers that are not secret.
-ghost use Rattle.std.specs.Prelude.{◌≡◌, ◌≤◌, ◌^◌, All, IfOk, length, map, slice_index};
+ghost use Rattle.std.specs.Prelude.{◌≡◌, ◌≤◌, ◌^◌, All, IfOk, map, slice_index};
 ghost use Rattle.query_plan.specs.KeyMessages.{message_length};
 ghost use Rattle.query_plan.specs.PredicateKeys.{length_of};
 ghost use Rattle.query_plan.specs.Query.{shaped};
@@ -35,7 +35,7 @@ fn bits_at(bits: &[u8], column: u8) -> u8
     }
 }
 
-// How many words the key of a predicate of this kind has, over a column of so many bits.
+// How many words the key of a predicate of this kind has, over a column of this many bits.
 fn key_words(kind: Kind, bits: u8) -> u64
     ensures value { result ≡ length_of kind bits }
     ensures few { result ≤ 2046 }
@@ -72,7 +72,7 @@ fn value_columns(aggregate: Aggregate) -> u64
     }
 }
 
-// How much each server sees of a query over so many rows of columns of these bits.
+// How much each server sees of a query over this many rows of columns of these bits.
 fn seen_by_all(bits: &[u8], rows: u64, query: &Query) -> Noted
     requires rows { rows ≤ 65536 }
     requires few { HasFew query.now }
@@ -90,7 +90,7 @@ fn seen_by_all(bits: &[u8], rows: u64, query: &Query) -> Noted
     }
 }
 
-/// How much each server sees of queries over so many rows of columns of these bits. The only error is out of memory.
+/// How much each server sees of queries over this many rows of columns of these bits. The only error is out of memory.
 pub(crate) fn all_noted(
     alloc: Global,
     bits: &[u8],

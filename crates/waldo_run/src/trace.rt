@@ -1,5 +1,5 @@
 //! The report of `trace`.
-ghost use Rattle.std.specs.Prelude.{◌≡◌, ◌++◌, ◌<◌, ◌^◌, IfOk, OnOk, length};
+ghost use Rattle.std.specs.Prelude.{◌≡◌, ◌++◌, IfOk, OnOk};
 ghost use Rattle.report_lines.specs.declared.lines.Line.TheVariants as lines;
 ghost use Rattle.waldo_run.specs.Traces.{refused_line, trace_lines, traced};
 
