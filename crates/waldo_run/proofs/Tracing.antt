@@ -1,17 +1,15 @@
 -- The reply to a command's steps, as the command reports it.
-use Rattle.std.proofs.Common.{◌≡◌, ◌∙◌, refl, sym, ap, ℕ, ◌≤◌, List, All, length, map, arith}
-use Rattle.query_plan.specs.Query.{AreWidthsOf, shaped}
+use Rattle.std.proofs.Common.{◌≡◌, ◌∙◌, refl, sym, ap, ℕ, List, length, map}
+use Rattle.query_plan.specs.Query.{shaped}
 use Rattle.query_plan.specs.declared.query.Query.{Query}
 use Rattle.report_lines.specs.declared.lines.Line.{Line}
 use Rattle.table_schema.specs.declared.rows.Row.{Row}
-use Rattle.table_schema.specs.declared.widths.Widths.{Widths}
-use Rattle.waldo_words.specs.Legal.{IsCommon}
 use Rattle.waldo_words.specs.declared.command.Common.{Common}
 use Rattle.waldo_words.specs.declared.command.Command.{Command}
 use Rattle.waldo_words.specs.declared.command.Command.TheVariants as commands
 use Rattle.waldo_run.specs.Replies.{Reply, reported}
 use Rattle.waldo_run.specs.Tasks.{bits_of}
-use Rattle.waldo_run.specs.Traces.{HasFew, noted_over, traced}
+use Rattle.waldo_run.specs.Traces.{noted_over, traced}
 use Rattle.waldo_run.specs.declared.seen.Noted.{Noted}
 
 -- the status stays
@@ -22,14 +20,6 @@ reported_status (commands.Race c writers askers rounds) rows reply = refl
 reported_status (commands.Make c number count) rows reply = refl
 reported_status (commands.Trace c) rows reply = refl
 reported_status (commands.Tamper c shifts) rows reply = refl
-
--- queries that are legal have 1 to 4 predicates
-pub few_predicates : (c : Common) (w : Widths) → IsCommon c → AreWidthsOf c.schema w → All HasFew c.queries
-few_predicates c w common of = λ n d lt. let suits = common.suits n d lt w of in (suits.some, suits.few)
-
--- a capacity is within the limits
-pub few_rows : (c : Common) (n : ℕ) → IsCommon c → n ≤ c.capacity → n ≤ 65536
-few_rows c n common few = omega (arith, few, common.fits.1)
 
 -- the reply of `trace`, as the code makes it
 pub traced_reply : (command : Command) (c : Common) (rows : List Row) (reply made : Reply) (bits : List ℕ) (n : ℕ) (qs : List Query) (seen told : List Noted) (lines report : List Line) (status : ℕ)
