@@ -78,7 +78,17 @@ impl Product {
         } = self;
         plan.count();
         let next = j + 1;
-        let bits = bits_round(rt, alloc, &plan, &ready.keys, shelves, wire, trace, run, next)?;
+        let bits = bits_round(
+            rt,
+            alloc,
+            &plan,
+            &ready.keys,
+            shelves,
+            wire,
+            trace,
+            run,
+            next,
+        )?;
         Ok(Bits {
             plan,
             run,
@@ -133,7 +143,17 @@ impl Product {
             chain,
             ..
         } = self;
-        let total = opening_round(rt, alloc, &plan, &ready.keys, &chain, shelves, wire, trace, run)?;
+        let total = opening_round(
+            rt,
+            alloc,
+            &plan,
+            &ready.keys,
+            &chain,
+            shelves,
+            wire,
+            trace,
+            run,
+        )?;
         Ok(Opened { total })
     }
 }

@@ -173,7 +173,9 @@ impl Ready {
         ensures trace { GrewBy trace.old trace.new (bits_part self.now.plan (column_of self.now.plan 0)) result }
     {
         self.plan.count();
-        let bits = bits_round(rt, alloc, &self.plan, &self.keys, shelves, wire, trace, run, 0)?;
+        let bits = bits_round(
+            rt, alloc, &self.plan, &self.keys, shelves, wire, trace, run, 0,
+        )?;
         Ok(Bits {
             plan: self.plan.same(),
             run,
