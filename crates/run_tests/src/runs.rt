@@ -525,7 +525,7 @@ fn an_interval_of_a_day(rt: HostRuntime) -> Result<(), Fail> {
     Ok(())
 }
 
-// So many rows, row i of host i modulo 4 and with value i.
+// `rows` rows, row i of host i modulo 4 and with value i.
 fn hosts(alloc: Global, rows: u64) -> Result<String, Memory> {
     let mut text = String::from_str(alloc, "host,value\n")?;
     for i in 0..rows {
