@@ -7,3 +7,4 @@ pub mod Runs
 pub mod Both
 pub mod Adding
 pub mod Visiting
+pub mod Noting

@@ -5,3 +5,4 @@ pub mod Shelves
 pub mod Plans
 pub mod Runs
 pub mod Visits
+pub mod Noted

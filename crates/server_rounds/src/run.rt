@@ -1,5 +1,5 @@
 //! A run, and both runs of a query.
-ghost use Rattle.std.specs.Prelude.{◌≡◌, ◌<◌, ◌≤◌, ◌+◌, List, [], ◌∷◌, map, IfOk};
+ghost use Rattle.std.specs.Prelude.{◌≡◌, ◌<◌, ◌≤◌, ◌+◌, List, [], ◌∷◌, ◌++◌, map, IfOk};
 ghost use Rattle.wire_line.specs.declared.message.Message.{Message};
 ghost use Rattle.wire_line.specs.Messages.{Went};
 ghost use Rattle.transcript.specs.Setup.{Ending, column_of, count_of};
@@ -12,6 +12,8 @@ ghost use Rattle.server_rounds.specs.Runs.{HaveProducts, IsPredicatePart, IsRun,
 ghost use Rattle.server_rounds.specs.Shelves.{AreShelves, pieces_of, rows_of};
 ghost use Rattle.server_rounds.specs.Visits.{AllVisited, predicate_columns, query_columns, run_columns};
 ghost use Rattle.server_rounds.specs.declared.way.Way.TheVariants.{Around};
+ghost use Rattle.visit_trace.specs.Seen.{GrewBy};
+ghost use Rattle.visit_trace.specs.Expected.{bits_part, part_seen, products_part, run_part, step_lengths, trace_of};
 
 use crate::opened::OpenedPair;
 use crate::product::Product;
@@ -23,6 +25,7 @@ use ring128::Memory;
 use scan_chunks::Shelf;
 use std::alloc::Global;
 use std::thread::Threads;
+use visit_trace::Trace;
 use wire_line::Wire;
 
 // The first predicate of a run.
@@ -33,6 +36,7 @@ fn first_predicate<R: Threads + Sync, S: Shelf + Send, W: Wire>(
     run: u8,
     shelves: &mut Servers<S>,
     wire: &mut W,
+    trace: &mut Trace,
 ) -> Result<Product, Memory>
     requires run { run < 2 }
     requires zero { AreShelves ready.now.plan.widths ready.now.plan.rows (map S.held shelves.old.zero.items) }
@@ -50,9 +54,10 @@ fn first_predicate<R: Threads + Sync, S: Shelf + Send, W: Wire>(
         (ms : List Message) × Went W.sight wire.old ms wire.new
         × IsGroup Around (bits_of ready.now.plan run (views_of ready.now.keys) pieces 0) ms
         × IfOk result (λ p. AreReshared p.chain ms) }
+    ensures trace { GrewBy trace.old trace.new (bits_part ready.now.plan (column_of ready.now.plan 0)) result }
 {
-    let bits = ready.bits(rt, alloc, run, shelves, wire)?;
-    let product = bits.product(rt, alloc, ready, wire)?;
+    let bits = ready.bits(rt, alloc, run, shelves, wire, trace)?;
+    let product = bits.product(rt, alloc, ready, wire, trace)?;
     Ok(product)
 }
 
@@ -64,6 +69,7 @@ fn next_predicate<R: Threads + Sync, S: Shelf + Send, W: Wire>(
     chain: Product,
     shelves: &mut Servers<S>,
     wire: &mut W,
+    trace: &mut Trace,
 ) -> Result<Product, Memory>
     requires began { chain.plan ≡ ready.now.plan }
     requires left { chain.j + 1 < count_of chain.plan }
@@ -82,9 +88,11 @@ fn next_predicate<R: Threads + Sync, S: Shelf + Send, W: Wire>(
         (ms : List Message) × Went W.sight wire.old ms wire.new
         × ((part : IsPredicatePart chain.plan chain.run (views_of ready.now.keys) pieces (chain.j + 1) chain.chain ms)
         × IfOk result (λ p. AreReshared p.chain part.product_messages)) }
+    ensures trace { GrewBy trace.old trace.new
+        (part_seen chain.plan (column_of chain.plan (chain.j + 1) ∷ []) (step_lengths chain.plan ++ step_lengths chain.plan)) result }
 {
-    let bits = chain.bits(rt, alloc, ready, shelves, wire)?;
-    let product = bits.product(rt, alloc, ready, wire)?;
+    let bits = chain.bits(rt, alloc, ready, shelves, wire, trace)?;
+    let product = bits.product(rt, alloc, ready, wire, trace)?;
     Ok(product)
 }
 
@@ -98,6 +106,7 @@ pub fn run_products<R: Threads + Sync, S: Shelf + Send, W: Wire>(
     run: u8,
     shelves: &mut Servers<S>,
     wire: &mut W,
+    trace: &mut Trace,
 ) -> Result<Product, Memory>
     requires run { run < 2 }
     requires zero { AreShelves ready.now.plan.widths ready.now.plan.rows (map S.held shelves.old.zero.items) }
@@ -116,11 +125,12 @@ pub fn run_products<R: Threads + Sync, S: Shelf + Send, W: Wire>(
         (ms : List Message) × Went W.sight wire.old ms wire.new
         × ((ending : Ending) → IsRunPart ready.now.plan ending pieces run views ms)
         × IfOk result (λ p. HaveProducts ready.now.plan pieces run views (count_of ready.now.plan) p.chain ms) }
+    ensures trace { GrewBy trace.old trace.new (products_part ready.now.plan) result }
 {
     let count = ready.plan.count();
-    let mut product = first_predicate(rt, alloc, ready, run, shelves, wire)?;
+    let mut product = first_predicate(rt, alloc, ready, run, shelves, wire, trace)?;
     for _j in 1..count {
-        product = next_predicate(rt, alloc, ready, product, shelves, wire)?;
+        product = next_predicate(rt, alloc, ready, product, shelves, wire, trace)?;
     }
     Ok(product)
 }
@@ -133,6 +143,7 @@ fn run_once<R: Threads + Sync, S: Shelf + Send, W: Wire>(
     run: u8,
     shelves: &mut Servers<S>,
     wire: &mut W,
+    trace: &mut Trace,
 ) -> Result<u128, Memory>
     requires run { run < 2 }
     requires zero { AreShelves ready.now.plan.widths ready.now.plan.rows (map S.held shelves.old.zero.items) }
@@ -149,9 +160,10 @@ fn run_once<R: Threads + Sync, S: Shelf + Send, W: Wire>(
         (ms : List Message) × Went W.sight wire.old ms wire.new
         × IsRunPart ready.now.plan (total_ending ready.now.plan) pieces run views ms
         × IfOk result (λ total. IsRun ready.now.plan (total_ending ready.now.plan) pieces run views ms 0 total) }
+    ensures trace { GrewBy trace.old trace.new (run_part ready.now.plan) result }
 {
-    let product = run_products(rt, alloc, ready, run, shelves, wire)?;
-    let opened = product.reveal(rt, alloc, ready, shelves, wire)?;
+    let product = run_products(rt, alloc, ready, run, shelves, wire, trace)?;
+    let opened = product.reveal(rt, alloc, ready, shelves, wire, trace)?;
     Ok(opened.total)
 }
 
@@ -166,6 +178,7 @@ pub fn both_runs<R: Threads + Sync, S: Shelf + Send, W: Wire>(
     shelves: &mut Servers<S>,
     keys: &Keys,
     wire: &mut W,
+    trace: &mut Trace,
 ) -> Result<OpenedPair, Memory>
     requires few { rows_of (map S.held shelves.old.zero.items) ≤ 65536 }
     requires zero { AreShelves keys.now.widths (rows_of (map S.held shelves.old.zero.items)) (map S.held shelves.old.zero.items) }
@@ -181,10 +194,11 @@ pub fn both_runs<R: Threads + Sync, S: Shelf + Send, W: Wire>(
         (ms : List Message) × Went W.sight wire.old ms wire.new
         × IsPart setup ms
         × IfOk result (λ pair. IsTranscript setup ms × (pair.total ≡ opened_of setup ms 0) × (pair.weighted ≡ opened_of setup ms 1)) }
+    ensures trace { GrewBy trace.old trace.new (trace_of (sizes_for keys.now (rows_of (map S.held shelves.old.zero.items)))) result }
 {
     let rows = count_rows(shelves.zero.as_slice());
-    let ready = Ready::send(alloc, keys, rows, wire)?;
-    let total = run_once(rt, alloc, &ready, 0, shelves, wire)?;
-    let weighted = run_once(rt, alloc, &ready, 1, shelves, wire)?;
+    let ready = Ready::send(alloc, keys, rows, wire, trace)?;
+    let total = run_once(rt, alloc, &ready, 0, shelves, wire, trace)?;
+    let weighted = run_once(rt, alloc, &ready, 1, shelves, wire, trace)?;
     Ok(OpenedPair { total, weighted })
 }
