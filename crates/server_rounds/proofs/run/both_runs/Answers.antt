@@ -9,6 +9,7 @@ use Rattle.server_rounds.specs.Plans.{read_for, sizes_for, views_of, words_for}
 use Rattle.server_rounds.specs.Shelves.{AreShelves, pieces_of, rows_of}
 use Rattle.server_rounds.specs.Visits.{run_columns}
 use Rattle.server_rounds.proofs.Both.{after_keys, after_run, whole_pair}
+use Rattle.server_rounds.proofs.OneServer.{one_server, told_messages}
 use Rattle.server_rounds.proofs.Together.{total-map, counted}
 use Rattle.server_rounds.proofs.Visiting.{all_cut, all_done, all_fails, all_none, all_then}
 use Rattle.server_rounds.proofs.run.both_runs.Goals as goal
@@ -161,3 +162,10 @@ returns-clause-visits g c =
     let t = c.in_ok-total.ensures in
     let both = all_then held g.S.Shelf.visited (run_columns z) (run_columns z) _ _ _ _ _ t.zero t.one t.two (rw plan at t.visits) (rw plan at c.in_ok-weighted.ensures.visits) in
     all_done held g.S.Shelf.visited _ _ _ _ _ both
+
+pub returns-clause-one_server : goal.returns-clause-one_server
+returns-clause-one_server g c old ms told_old told_new =
+    let m = returns-clause-messages g c in
+    let k = c.args.keys.now in
+    let these : m.0 ≡ ms = told_messages g.W.Wire.told _ _ old m.0 ms told_old told_new m.1.listed in
+    one_server c.shifted_open.ensures k _ _ m.0 ms _ c.shape.ensures.add_up c.shape.ensures.suits m.3.0 m.3.1 m.3.2 these
