@@ -141,7 +141,8 @@ impl Book {
         requires { (sight.old.book ≡ self.now) × (other.book ≡ self.now) }
         ensures order { sight.new.order ≡ longer sight.old.order other.order }
         ensures grown { IsPrefix sight.old.order sight.new.order × IsPrefix other.order sight.new.order }
-        ensures sums { sight.new ≡ record sight.old { order = sight.new.order; room = sight.old.room + other.room; own = sight.old.own ++ other.own } }
+        ensures sums { sight.new
+            ≡ record sight.old { order = sight.new.order; room = sight.old.room + other.room; own = sight.old.own ++ other.own } }
         ensures apart { (x : ℕ) → times x sight.old.own + times x other.own ≤ 1 }
         ensures sound { IsSound sight.new }
     {

@@ -87,7 +87,7 @@ returns-in_err-total-clause-messages g c =
     let ending = total_ending z in
     let b0 = after_keys z ending words read pieces views k.0 k.2 k.3 in
     let r = rw plan at c.in_err-total.ensures.messages in
-    let went = went_both g.W.Wire.told g.W.Wire.alterations g.W.Wire.passes g.met.W.Wire.both_pass _ _ _ k.0 r.0 k.1 r.1 in
+    let went = went_both g.W.Wire.sight g.met.W.Wire.both_pass _ _ _ k.0 r.0 k.1 r.1 in
     (k.0 ++ r.0, went, r.2 words read k.0 b0, search rules)
 
 pub returns-in_err-weighted-clause-messages : goal.returns-in_err-weighted-clause-messages
@@ -106,8 +106,8 @@ returns-in_err-weighted-clause-messages g c =
     let r = rw plan at c.in_ok-total.ensures.messages in
     let w = rw (plan, c.in_ok-total.ensures.zero, c.in_ok-total.ensures.one, c.in_ok-total.ensures.two) at c.in_err-weighted.ensures.messages in
     let b1 = after_run z ending words read pieces views k.0 r.0 0 _ b0 r.2 r.3 in
-    let first = went_both g.W.Wire.told g.W.Wire.alterations g.W.Wire.passes g.met.W.Wire.both_pass _ _ _ k.0 r.0 k.1 r.1 in
-    let went = went_both g.W.Wire.told g.W.Wire.alterations g.W.Wire.passes g.met.W.Wire.both_pass _ _ _ (k.0 ++ r.0) w.0 first w.1 in
+    let first = went_both g.W.Wire.sight g.met.W.Wire.both_pass _ _ _ k.0 r.0 k.1 r.1 in
+    let went = went_both g.W.Wire.sight g.met.W.Wire.both_pass _ _ _ (k.0 ++ r.0) w.0 first w.1 in
     ((k.0 ++ r.0) ++ w.0, went, w.2 words read (k.0 ++ r.0) b1, search rules)
 
 pub returns-clause-messages : goal.returns-clause-messages
@@ -126,8 +126,8 @@ returns-clause-messages g c =
     let r = rw plan at c.in_ok-total.ensures.messages in
     let w = rw (plan, c.in_ok-total.ensures.zero, c.in_ok-total.ensures.one, c.in_ok-total.ensures.two) at c.in_ok-weighted.ensures.messages in
     let b1 = after_run z ending words read pieces views k.0 r.0 0 _ b0 r.2 r.3 in
-    let first = went_both g.W.Wire.told g.W.Wire.alterations g.W.Wire.passes g.met.W.Wire.both_pass _ _ _ k.0 r.0 k.1 r.1 in
-    let went = went_both g.W.Wire.told g.W.Wire.alterations g.W.Wire.passes g.met.W.Wire.both_pass _ _ _ (k.0 ++ r.0) w.0 first w.1 in
+    let first = went_both g.W.Wire.sight g.met.W.Wire.both_pass _ _ _ k.0 r.0 k.1 r.1 in
+    let went = went_both g.W.Wire.sight g.met.W.Wire.both_pass _ _ _ (k.0 ++ r.0) w.0 first w.1 in
     let some : 0 < count_of z = rw plan at c.in_ok-total.ensures.some in
     let part = w.2 words read (k.0 ++ r.0) b1 in
     ((k.0 ++ r.0) ++ w.0, went, part, whole_pair z ending words read pieces views k.0 r.0 w.0 0 _ _ some b0 b1 r.3 part w.3)
@@ -167,5 +167,5 @@ pub returns-clause-one_server : goal.returns-clause-one_server
 returns-clause-one_server g c old ms told_old told_new =
     let m = returns-clause-messages g c in
     let k = c.args.keys.now in
-    let these : m.0 ≡ ms = told_messages g.W.Wire.told _ _ old m.0 ms told_old told_new m.1.listed in
+    let these : m.0 ≡ ms = told_messages g.W.Wire.sight.reported _ _ old m.0 ms told_old told_new m.1.listed in
     one_server c.shifted_open.ensures k _ _ m.0 ms _ c.shape.ensures.add_up c.shape.ensures.suits m.3.0 m.3.1 m.3.2 these
