@@ -21,6 +21,7 @@ use Rattle.waldo_run.specs.Run.{Asked, AskedIn, HasSchedule, Puts, Refuses, Refu
 use Rattle.waldo_run.specs.Tasks.{common_in, rows_in, rows_made, setting_of, task_over}
 use Rattle.waldo_run.proofs.Plain.{plain_reply_to}
 use Rattle.waldo_run.proofs.Reported.{long_reported, over_reported, whole_reported}
+use Rattle.waldo_run.proofs.Tracing.{reported_status}
 use Rattle.fault_count.specs.Streams.{Change}
 
 kept : (n v : ℕ) → v ≢ 4 → v ≡ after_failed_put n → v ≡ n
@@ -70,7 +71,9 @@ five_status scheduled refused r = record { two = λ e. absurd (omega (arith, e))
 
 rows_status : AskedInOrder → (unaltered : ℕ → Type 0) (command : Command) (history : List Done) (rows : Result (List Row) RowFault) → AskedIn unaltered command history rows
     → OfRows (HasSchedule (Ok command)) (IsRefused rows) (reply_over (checked_answer history) command rows).status
-rows_status order unaltered command history (Ok rows) asked = task_status order ⊥ command history rows asked.widths asked.legal
+rows_status order unaltered command history (Ok rows) asked =
+    subst (OfRows (HasSchedule (Ok command)) ⊥) (sym (reported_status command rows (checked_answer history (task_over command rows))))
+    (task_status order ⊥ command history rows asked.widths asked.legal)
 rows_status order unaltered command history (Err row.Header) asked = five_status _ _ (λ e. cc)
 rows_status order unaltered command history (Err (row.BadRecord number why)) asked = five_status _ _ (λ e. cc)
 rows_status order unaltered command history (Err (row.TooMany capacity)) asked = five_status _ _ (λ e. cc)
