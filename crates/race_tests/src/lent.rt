@@ -82,8 +82,8 @@ fn write_and_ask<R: Abort + Threads + Wait + Sync>(rt: &R, alloc: Global) -> Res
 // The asker's pass has seen nothing of the three rows before it asks; two of them have bucket 3.
 #[test]
 fn a_writer_and_an_asker(rt: HostRuntime) -> Result<(), Memory> {
-    let (places, told) = write_and_ask(&rt, rt.alloc())?;
+    let (places, lines) = write_and_ask(&rt, rt.alloc())?;
     assert!(rt; places.as_slice() == [0, 1, 2].as_slice());
-    assert!(rt; told.as_slice() == b"back 0 rows 3\nask 0.0 rows 3 count 2\n".as_slice());
+    assert!(rt; lines.as_slice() == b"back 0 rows 3\nask 0.0 rows 3 count 2\n".as_slice());
     Ok(())
 }

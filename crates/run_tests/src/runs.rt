@@ -473,7 +473,7 @@ fn alterations(rt: HostRuntime) -> Result<(), Fail> {
             ),
             &[(6, 1 << 64), (12, KEY << 64)],
         ),
-        // A second that a count of one predicate doesn't use, made good at the opening.
+        // A second that a count of one predicate does not use, made good at the opening.
         ((COUNT, INPUT, 0, "ask 0 rows 3 count 2\n"), &[(3, 1)]),
     ];
     for (case, amounts) in &cases {
