@@ -63,10 +63,13 @@ fn ask<R: Abort + Threads + Wait + Sync>(
 }
 
 // The places of the rows, and the text of the two lines.
-type Told = (Places, Vec<u8>);
+type Printed = (Places, Vec<u8>);
 
 // Writes through the first pass of a table for three rows, and asks through one that was split off without room.
-fn write_and_ask<R: Abort + Threads + Wait + Sync>(rt: &R, alloc: Global) -> Result<Told, Memory> {
+fn write_and_ask<R: Abort + Threads + Wait + Sync>(
+    rt: &R,
+    alloc: Global,
+) -> Result<Printed, Memory> {
     let Ok((table, mut pass)) = Table::new(alloc, WIDTHS, 3) else {
         return Err(Memory);
     };

@@ -143,3 +143,84 @@ fn a_server_that_lags(rt: HostRuntime) -> Result<(), Memory> {
     assert_eq!(rt; lag_anew(&rt, rt.alloc())?, Some((0, [0, 1], lag)));
     Ok(())
 }
+
+// The place of the other pass's row, and what that pass was told before the draw was placed and after.
+type Rested = (Option<u64>, [Told; 2]);
+
+// A draw rests while the other pass appends a row and is told; then the draw is placed at all servers, and it is told again.
+fn place_at_last<R: Abort + Threads + Wait + Sync>(
+    rt: &R,
+    alloc: Global,
+    table: &Table,
+    pass: &mut Pass,
+    drawn: &mut Drawn,
+    other: &mut Pass,
+    prepared: Prepared,
+) -> Rested
+    requires pass { IsOf table.now pass.old }
+    requires table { drawn.old.table ≡ table.now }
+    requires entry { slice_get pass.old.sight.order drawn.old.place ≡ Some drawn.old.entry }
+    requires other { IsOf table.now other.old }
+    requires prepared { prepared.widths ≡ table.now.widths }
+    ensures pass { IsOf table.now pass.new }
+    ensures other { IsOf table.now other.new }
+    ensures done { is_done drawn.new ≡ true }
+{
+    let place = table.append(rt, other, prepared).ok();
+    let before = tell(rt, alloc, table, other);
+    table.place(rt, pass, drawn, 0);
+    table.place(rt, pass, drawn, 1);
+    table.place(rt, pass, drawn, 2);
+    let after = tell(rt, alloc, table, other);
+    (place, [before, after])
+}
+
+fn draw_and_rest<R: Abort + Threads + Wait + Sync>(
+    rt: &R,
+    alloc: Global,
+    table: &Table,
+    pass: &mut Pass,
+) -> Result<Option<(u64, Rested)>, Memory>
+    requires pass { IsOf table.now pass.old }
+    requires room { 1 ≤ pass.old.sight.room }
+{
+    let first = ready(rt, alloc, table, 3, 10)?;
+    let second = ready(rt, alloc, table, 3, 20)?;
+    let mut other = table.split_pass(pass, 1);
+    let Ok(mut drawn) = table.draw(pass, first) else {
+        return Ok(None);
+    };
+    let rested = place_at_last(rt, alloc, table, pass, &mut drawn, &mut other, second);
+    Ok(Some((finish(drawn), rested)))
+}
+
+// The same on a table of its own.
+fn rest_anew<R: Abort + Threads + Wait + Sync>(
+    rt: &R,
+    alloc: Global,
+) -> Result<Option<(u64, Rested)>, Memory> {
+    let (table, mut pass) = open(alloc, 2)?;
+    draw_and_rest(rt, alloc, &table, &mut pass)
+}
+
+// No server has place 0, so the first one already lacks it, and the looks find no first row anywhere. Once the draw is placed, both
+// rows are agreed on, and both have bucket 3.
+#[test]
+fn a_draw_that_rests(rt: HostRuntime) -> Result<(), Memory> {
+    let again = AgreeFault::Again {
+        server: 0,
+        had: 0,
+        floor: 2,
+    };
+    let ask_again = AskFault::Again {
+        server: 0,
+        had: 0,
+        floor: 2,
+    };
+    let told = [
+        (Err(again), Err(ask_again), 0, [0, 0, 0]),
+        (Ok(2), Ok(Answered { rows: 2, total: 2 }), 15, [2, 2, 2]),
+    ];
+    assert_eq!(rt; rest_anew(&rt, rt.alloc())?, Some((0, (Some(1), told))));
+    Ok(())
+}
