@@ -19,6 +19,7 @@ use std::alloc::Global;
 use std::thread::Threads;
 use waldo_core::{Event, Machine, Reply, StepFault};
 use waldo_words::Step;
+use visit_trace::Trace;
 use wire_line::Wire;
 
 /// How many actors there are, each with a wire.
@@ -203,7 +204,8 @@ impl Progress {
             return Err(refused);
         };
         let wire = &mut wires[usize::from(actor)];
-        match self.machine.step(rt, alloc, event, wire) {
+        let mut trace = Trace::new(alloc); // nobody prints it
+        match self.machine.step(rt, alloc, event, wire, &mut trace) {
             Ok(reply) => {
                 self.count(setting, style, step, reply)?;
                 Ok(())
