@@ -1,5 +1,5 @@
 -- What a step notes is what its shelves visited, and what its messages are long.
-use Rattle.std.proofs.Common.{◌≡◌, ◌∙◌, sym, ap, subst, refl, ℕ, zero, suc, ◌+◌, ◌-◌, ◌*◌, ◌<◌, ◌≤◌, List, [], ◌∷◌, ◌++◌, length, map, take, drop, get_or, append-nil, take-append-drop, All, arith, length-append, Result, Ok, Err}
+use Rattle.std.proofs.Common.{◌≡◌, ◌∙◌, sym, ap, subst, refl, ℕ, zero, suc, ◌+◌, ◌-◌, ◌*◌, ◌<◌, ◌≤◌, List, [], ◌∷◌, ◌++◌, length, map, take, drop, get_or, append-nil, take-append-drop, All, arith, length-append, Result, Ok, Err, Option, Some, None}
 use Rattle.std.specs.List.{AllZip, flat_map}
 use Rattle.std.specs.Result.{IsErr}
 use Rattle.std.proofs.lemmas.List.{drop-append-le, drop_all, take_more, take_all}
@@ -15,16 +15,17 @@ use Rattle.scan_chunks.proofs.Parts.{parts_visited}
 use Rattle.table_schema.specs.declared.shapes.Aggregate.{Aggregate}
 use Rattle.table_schema.specs.declared.shapes.Aggregate.TheVariants.{Count, Sum}
 use Rattle.table_schema.specs.declared.widths.Widths.{Widths}
+use Rattle.query_plan.specs.KeyMessages.{message_length}
 use Rattle.visit_trace.specs.Seen.{AllSeen, Seen, Grew, GrewBy, GrewPrefix, message_seen, nothing, only_at, alike}
 use Rattle.visit_trace.specs.Growing.{by_cut, by_stopped, by_then, grew_both, grew_nothing, part_then, parts_join, prefix_begun, prefix_cut, prefix_whole, seen_then, then_at}
-use Rattle.visit_trace.specs.Expected.{bits_part, chunk_visits, opening_part, part_seen, product_lengths, product_part, step_lengths, visits_over}
-use Rattle.visit_trace.specs.Sizes.{column_of, opened_columns}
+use Rattle.visit_trace.specs.Expected.{bits_part, chunk_visits, keys_part, opening_part, part_seen, product_lengths, product_part, products_part, run_lengths, run_part, step_lengths, trace_of, visits_over}
+use Rattle.visit_trace.specs.Sizes.{column_of, count_of, opened_columns, predicate_columns, run_columns}
 use Rattle.visit_trace.specs.declared.sizes.Sizes.{Sizes}
 use Rattle.server_rounds.specs.declared.servers.Servers.{Servers}
 use Rattle.server_rounds.specs.declared.way.Way.{Way}
 use Rattle.server_rounds.specs.declared.way.Way.TheVariants.{ToServers, Around, ToClient}
 use Rattle.server_rounds.specs.Groups.{from_of, to_of}
-use Rattle.server_rounds.specs.Noted.{group_seen, values_last}
+use Rattle.server_rounds.specs.Noted.{group_seen, product_of, values_last}
 use Rattle.server_rounds.specs.Shelves.{AreShelves}
 use Rattle.server_rounds.specs.Visits.{HaveVisits, last_visits, servers_last, shelves_last, visits_at}
 use Rattle.server_rounds.proofs.Together.{whole_of}
@@ -177,9 +178,16 @@ group_after_none way n0 n1 n2 a b q failed f =
     (prefix_cut a b (message way 0 n0) (message way 1 n1) f)))
 
 -- messages of one length
-pub group_along : (P : AllSeen → Type 0) (way : Way) (l0 l1 l2 n : ℕ) → l0 ≡ n → l1 ≡ n → l2 ≡ n → P (group_seen way l0 l1 l2) → P (group_seen way n n n)
-group_along P way l0 l1 l2 n e0 e1 e2 p =
-    subst P (ap (λ (m : ℕ). group_seen way m l1 l2) e0 ∙ ap (λ (m : ℕ). group_seen way n m l2) e1 ∙ ap (λ (m : ℕ). group_seen way n n m) e2) p
+pub group_same : (way : Way) (l0 l1 l2 n : ℕ) → l0 ≡ n → l1 ≡ n → l2 ≡ n → group_seen way l0 l1 l2 ≡ group_seen way n n n
+group_same way l0 l1 l2 n e0 e1 e2 =
+    ap (λ (m : ℕ). group_seen way m l1 l2) e0 ∙ ap (λ (m : ℕ). group_seen way n m l2) e1 ∙ ap (λ (m : ℕ). group_seen way n n m) e2
+
+-- a part by another name
+pub grew_along : (a b p q : AllSeen) → p ≡ q → Grew a b p → Grew a b q
+grew_along a b p q e g = subst (λ (x : AllSeen). Grew a b x) e g
+
+pub prefix_along : (a b p q : AllSeen) → p ≡ q → GrewPrefix a b p → GrewPrefix a b q
+prefix_along a b p q e g = subst (λ (x : AllSeen). GrewPrefix a b x) e g
 
 -- notes at one server after another
 pub only_then : (k : ℕ) (p q : Seen) → seen_then (only_at k p) (only_at k q) ≡ only_at k (then_at p q)
@@ -304,3 +312,39 @@ predicates_first z m n a b h f =
     (parts_join z (listed m (column_of z)) xs (product_lengths z m) ls ∙ ap (λ (l : List ℕ). part_seen z l (product_lengths z m ++ ls)) columns
     ∙ ap (λ (l : List ℕ). part_seen z (listed n (column_of z)) l) (lengths_first z m n h))
     (prefix_cut a b (predicates_part z m) (part_seen z xs ls) f)
+
+-- a product where there is no chain yet, and where there is one
+pub none_is : {A : Type 0} (z y : Sizes) (xs ls : List ℕ) (o : Option A) → o ≡ None → seen_then (part_seen z xs ls) (product_of y o) ≡ part_seen z xs ls
+none_is z y xs ls o e = ap (λ (u : Option _). seen_then (part_seen z xs ls) (product_of y u)) e ∙ then_nothing z xs ls
+
+pub some_is : {A : Type 0} (y z : Sizes) (o : Option A) (x : A) → y ≡ z → o ≡ Some x → product_of y o ≡ product_part z
+some_is y z o x same e = ap (λ (u : Option _). product_of y u) e ∙ ap product_part same
+
+-- the bits of a predicate, and then a product
+pub two_is : (z : Sizes) (column : ℕ) → seen_then (bits_part z column) (product_part z) ≡ part_seen z (column ∷ []) (step_lengths z ++ step_lengths z)
+two_is z column = parts_join z (column ∷ []) [] (step_lengths z) (step_lengths z)
+
+-- a run, and both runs behind the key messages
+pub run_is : (z : Sizes) → seen_then (products_part z) (opening_part z) ≡ run_part z
+run_is z = parts_join z (predicate_columns z) (opened_columns z.shape.aggregate z.widths.columns) (product_lengths z (count_of z)) (1 ∷ [])
+
+query_is : (z : Sizes) → seen_then (seen_then (keys_part z) (run_part z)) (run_part z) ≡ trace_of z
+query_is z = parts_join z (run_columns z) (run_columns z) (message_length z.shape z.widths.bits ∷ run_lengths z) (run_lengths z)
+
+pub query_all : (z : Sizes) (a b c d : AllSeen) → Grew a b (keys_part z) → Grew b c (run_part z) → Grew c d (run_part z) → Grew a d (trace_of z)
+query_all z a b c d f g h =
+    subst (λ (p : AllSeen). Grew a d p) (query_is z) (grew_both a c d (seen_then (keys_part z) (run_part z)) (run_part z) (grew_both a b c (keys_part z) (run_part z) f g) h)
+
+pub query_after_run : (z : Sizes) (a b c d : AllSeen) → Grew a b (keys_part z) → Grew b c (run_part z) → GrewPrefix c d (run_part z) → GrewPrefix a d (trace_of z)
+query_after_run z a b c d f g h =
+    subst (λ (p : AllSeen). GrewPrefix a d p) (query_is z) (prefix_begun a c d (seen_then (keys_part z) (run_part z)) (run_part z) (grew_both a b c (keys_part z) (run_part z) f g) h)
+
+pub query_after_keys : (z : Sizes) (a b c : AllSeen) → Grew a b (keys_part z) → GrewPrefix b c (run_part z) → GrewPrefix a c (trace_of z)
+query_after_keys z a b c f g =
+    subst (λ (p : AllSeen). GrewPrefix a c p) (query_is z)
+    (prefix_cut a c (seen_then (keys_part z) (run_part z)) (run_part z) (prefix_begun a b c (keys_part z) (run_part z) f g))
+
+pub query_cut : (z : Sizes) (a b : AllSeen) → GrewPrefix a b (keys_part z) → GrewPrefix a b (trace_of z)
+query_cut z a b f =
+    subst (λ (p : AllSeen). GrewPrefix a b p) (query_is z)
+    (prefix_cut a b (seen_then (keys_part z) (run_part z)) (run_part z) (prefix_cut a b (keys_part z) (run_part z) f))

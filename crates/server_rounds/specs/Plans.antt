@@ -8,7 +8,6 @@ use Rattle.transcript.specs.Setup.{Sizes, count_of, column_of}
 use Rattle.server_rounds.specs.declared.keys.ThreeKeys.{ThreeKeys}
 use Rattle.zero_share.specs.declared.seeds.ZeroSeeds.{ZeroSeeds}
 use Rattle.server_rounds.specs.Groups.{by_server}
-
 -- the limits
 pub use Rattle.visit_trace.specs.Sizes.{AreLegal}
 

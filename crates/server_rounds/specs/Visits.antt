@@ -8,7 +8,6 @@ use Rattle.scan_chunks.specs.Scan.{visits_of, VisitsPart}
 use Rattle.scan_chunks.specs.declared.visit.Visit.{Visit}
 use Rattle.visit_trace.specs.Seen.{AllSeen}
 use Rattle.server_rounds.specs.declared.servers.Servers.{Servers}
-
 -- the columns of a step, of a run and of a query
 pub use Rattle.visit_trace.specs.Sizes.{opened_columns, predicate_columns, run_columns, query_columns}
 

@@ -43,9 +43,9 @@ fn carry<W: Wire>(
     receiver: Peer,
     words: Words,
 ) -> Result<Words, Memory>
-    ensures carried { IfOk result (λ got. Went W.told W.alterations W.passes wire.old (message_of sender receiver words got ∷ []) wire.new) }
+    ensures carried { IfOk result (λ got. Went W.sight wire.old (message_of sender receiver words got ∷ []) wire.new) }
     ensures long { IfOk result (λ got. length got ≡ length words) }
-    ensures kept { OnErr result (Went W.told W.alterations W.passes wire.old [] wire.new) }
+    ensures kept { OnErr result (Went W.sight wire.old [] wire.new) }
     ensures trace { GrewBy trace.old trace.new (message_seen sender receiver (length words)) result }
 {
     let mut carried = words.into_vec();
@@ -62,7 +62,7 @@ pub fn carry_three<W: Wire>(
     words: Trio,
 ) -> Result<Trio, Memory>
     ensures long { IfOk result (λ got. AsLong got.zero got.one got.two words.zero words.one words.two) }
-    ensures messages { (ms : List Message) × Went W.told W.alterations W.passes wire.old ms wire.new
+    ensures messages { (ms : List Message) × Went W.sight wire.old ms wire.new
         × IsGroup way (by_server words.zero words.one words.two) ms
         × IfOk result (λ got. Received ms got.zero got.one got.two) }
     ensures trace { GrewBy trace.old trace.new (group_seen way (length words.zero) (length words.one) (length words.two)) result }

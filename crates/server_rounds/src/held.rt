@@ -85,7 +85,7 @@ pub fn reshare<W: Wire>(
     requires one { length words.one ≡ length words.zero }
     requires two { length words.two ≡ length words.zero }
     ensures long { IfOk result (λ held. AreLong (length words.zero) held) }
-    ensures messages { (ms : List Message) × Went W.told W.alterations W.passes wire.old ms wire.new
+    ensures messages { (ms : List Message) × Went W.sight wire.old ms wire.new
         × IsGroup Way.Around (by_server words.zero words.one words.two) ms
         × IfOk result (λ held. AreReshared held ms) }
     ensures trace { GrewBy trace.old trace.new (group_seen Way.Around (length words.zero) (length words.zero) (length words.zero)) result }

@@ -54,7 +54,7 @@ pub(crate) fn bits_round<R: Threads + Sync, S: Shelf + Send, W: Wire>(
     ensures long { IfOk result (λ held. AreLong plan.now.rows held) }
     ensures messages { let pieces = by_server (pieces_of (map S.held shelves.old.zero.items))
         (pieces_of (map S.held shelves.old.one.items)) (pieces_of (map S.held shelves.old.two.items)) in
-        (ms : List Message) × Went W.told W.alterations W.passes wire.old ms wire.new
+        (ms : List Message) × Went W.sight wire.old ms wire.new
         × IsGroup Way.Around (bits_of plan.now run (views_of keys.now) pieces j) ms
         × IfOk result (λ held. AreReshared held ms) }
     ensures trace { GrewBy trace.old trace.new (bits_part plan.now (column_of plan.now j)) result }
@@ -89,7 +89,7 @@ fn reshare_noted<S: Shelf, W: Wire>(
     requires one_seen { HaveVisits S.held S.visited shelves.now.one.items }
     requires two_seen { HaveVisits S.held S.visited shelves.now.two.items }
     ensures long { IfOk result (λ held. AreLong (length words.zero) held) }
-    ensures messages { (ms : List Message) × Went W.told W.alterations W.passes wire.old ms wire.new
+    ensures messages { (ms : List Message) × Went W.sight wire.old ms wire.new
         × IsGroup Way.Around (by_server words.zero words.one words.two) ms
         × IfOk result (λ held. AreReshared held ms) }
     ensures trace { GrewBy trace.old trace.new (seen_then (servers_last S.held S.visited shelves.now)
@@ -118,7 +118,7 @@ pub(crate) fn product_round<R: Threads + Sync, W: Wire>(
     requires chain { AreLong plan.now.rows chain.now }
     requires bits { AreLong plan.now.rows bits.now }
     ensures long { IfOk result (λ held. AreLong plan.now.rows held) }
-    ensures messages { (ms : List Message) × Went W.told W.alterations W.passes wire.old ms wire.new
+    ensures messages { (ms : List Message) × Went W.sight wire.old ms wire.new
         × IsGroup Way.Around (products_of plan.now run (views_of keys.now) j chain.now bits.now) ms
         × IfOk result (λ held. AreReshared held ms) }
     ensures trace { GrewBy trace.old trace.new (product_part plan.now) result }
@@ -144,7 +144,7 @@ fn opened<S: Shelf, W: Wire>(
     requires zero_seen { plan.now.shape.aggregate ≡ Sum → HaveVisits S.held S.visited shelves.now.zero.items }
     requires one_seen { plan.now.shape.aggregate ≡ Sum → HaveVisits S.held S.visited shelves.now.one.items }
     requires two_seen { plan.now.shape.aggregate ≡ Sum → HaveVisits S.held S.visited shelves.now.two.items }
-    ensures messages { (ms : List Message) × Went W.told W.alterations W.passes wire.old ms wire.new
+    ensures messages { (ms : List Message) × Went W.sight wire.old ms wire.new
         × IsGroup Way.ToClient (by_server words.zero words.one words.two) ms
         × IfOk result (λ total. IsOpened ms total) }
     ensures trace { GrewBy trace.old trace.new (seen_then (values_last plan.now.shape.aggregate (servers_last S.held S.visited shelves.now))
@@ -179,7 +179,7 @@ pub(crate) fn opening_round<R: Threads + Sync, S: Shelf + Send, W: Wire>(
     ensures visits { AllVisited S.held S.visited (opened_columns plan.now.shape.aggregate plan.now.widths.columns) shelves.old shelves.new result }
     ensures messages { let pieces = by_server (pieces_of (map S.held shelves.old.zero.items))
         (pieces_of (map S.held shelves.old.one.items)) (pieces_of (map S.held shelves.old.two.items)) in
-        (ms : List Message) × Went W.told W.alterations W.passes wire.old ms wire.new
+        (ms : List Message) × Went W.sight wire.old ms wire.new
         × IsGroup Way.ToClient (openings_of plan.now run (views_of keys.now) pieces chain.now) ms
         × IfOk result (λ total. IsOpened ms total) }
     ensures trace { GrewBy trace.old trace.new (opening_part plan.now) result }

@@ -2,7 +2,6 @@
 use Rattle.std.specs.Prelude.{ℕ, List}
 use Rattle.query_plan.specs.Views.{View}
 use Rattle.scan_chunks.specs.Pieces.{Pieces}
-
 -- its sizes are those of a trace
 pub use Rattle.visit_trace.specs.declared.sizes.Sizes.{Sizes}
 pub use Rattle.visit_trace.specs.Sizes.{count_of, column_of}

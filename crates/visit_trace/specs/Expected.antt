@@ -5,7 +5,7 @@ use Rattle.list_facts.specs.Listed.{listed}
 use Rattle.scan_chunks.specs.Pieces.{chunks_of}
 use Rattle.scan_chunks.specs.declared.visit.Visit.{Visit}
 use Rattle.query_plan.specs.KeyMessages.{message_length}
-use Rattle.visit_trace.specs.Seen.{Seen, AllSeen, alike}
+use Rattle.visit_trace.specs.Seen.{AllSeen, alike}
 use Rattle.visit_trace.specs.Sizes.{count_of, opened_columns, predicate_columns, run_columns, query_columns}
 use Rattle.visit_trace.specs.declared.sizes.Sizes.{Sizes}
 

@@ -4,7 +4,7 @@ use Rattle.std.specs.Result.{IsErr}
 use Rattle.std.proofs.lemmas.Grind.{flat_map-append}
 use Rattle.scan_chunks.specs.declared.visit.Visit.{Visit}
 use Rattle.visit_trace.specs.Seen.{Seen, AllSeen, SawMore, Grew, AddsPrefix, SawPrefix, GrewPrefix, GrewBy, nothing, alike}
-use Rattle.visit_trace.specs.Expected.{chunk_visits, part_seen, visits_over}
+use Rattle.visit_trace.specs.Expected.{chunk_visits, part_seen}
 use Rattle.visit_trace.specs.declared.sizes.Sizes.{Sizes}
 
 -- one part and then another

@@ -1,7 +1,7 @@
 //! Traces from sizes alone.
-ghost use Rattle.std.specs.Prelude.{◌≡◌, ◌<◌, ◌≤◌, ◌-◌, ◌*◌, [], ◌∷◌, ◌++◌, IfOk, OnOk};
+ghost use Rattle.std.specs.Prelude.{◌≡◌, ◌≤◌, ◌++◌, IfOk, OnOk};
 ghost use Rattle.visit_trace.specs.Expected.{chunk_visits, product_lengths, query_lengths, run_lengths, trace_of, visits_over};
-ghost use Rattle.visit_trace.specs.Sizes.{AreLegal, column_of, count_of, predicate_columns, query_columns, run_columns};
+ghost use Rattle.visit_trace.specs.Sizes.{AreLegal, count_of, predicate_columns, query_columns, run_columns};
 
 use crate::sizes::Sizes;
 use crate::trace::{Notes, Trace};

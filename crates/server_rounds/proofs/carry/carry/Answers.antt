@@ -5,4 +5,4 @@ use Rattle.server_rounds.proofs.carry.carry.Goals as goal
 
 pub returns-in_err-note_message-clause-kept : goal.returns-in_err-note_message-clause-kept
 returns-in_err-note_message-clause-kept g c =
-    on_err _ _ (went_none g.W.Wire.told g.W.Wire.alterations g.W.Wire.passes _ _ refl refl (g.met.W.Wire.none_passes _))
+    on_err _ _ (went_none g.W.Wire.sight _ _ refl refl (g.met.W.Wire.none_passes _))

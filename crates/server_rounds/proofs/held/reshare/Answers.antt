@@ -1,15 +1,14 @@
 use Rattle.std.proofs.Common.{◌∙◌, ap, [], refl, length, rules}
 use Rattle.wire_line.specs.Carried.{went_none}
 use Rattle.server_rounds.proofs.Messages.{group_none, regroup, reshared, three_same}
-use Rattle.visit_trace.specs.Seen.{AllSeen, Grew, GrewPrefix}
 use Rattle.visit_trace.specs.Growing.{by_stopped, prefix_none}
 use Rattle.server_rounds.specs.declared.way.Way.TheVariants.{Around}
-use Rattle.server_rounds.proofs.Noting.{group_along}
+use Rattle.server_rounds.proofs.Noting.{group_same, grew_along, prefix_along}
 use Rattle.server_rounds.proofs.held.reshare.Goals as goal
 
 pub returns-in_err-sent-clause-messages : goal.returns-in_err-sent-clause-messages
 returns-in_err-sent-clause-messages g c =
-    ([], went_none g.W.Wire.told g.W.Wire.alterations g.W.Wire.passes _ _ refl refl (g.met.W.Wire.none_passes _), group_none _ _, search rules)
+    ([], went_none g.W.Wire.sight _ _ refl refl (g.met.W.Wire.none_passes _), group_none _ _, search rules)
 
 pub returns-in_err-got-clause-messages : goal.returns-in_err-got-clause-messages
 returns-in_err-got-clause-messages g c =
@@ -35,10 +34,10 @@ returns-in_err-sent-clause-trace g c = by_stopped _ _ _ _ c.from_residual.ensure
 pub returns-in_err-got-clause-trace : goal.returns-in_err-got-clause-trace
 returns-in_err-got-clause-trace g c =
     by_stopped _ _ _ _ c.from_residual-in_err-got.ensures.0
-    (group_along (λ (p : AllSeen). GrewPrefix c.args.trace.now c.carry_three-got.new.trace p) Around _ _ _ (length c.args.words.zero) (ap length c.in_ok-sent.ensures.zero)
-    (ap length c.in_ok-sent.ensures.one ∙ c.requires.one) (ap length c.in_ok-sent.ensures.two ∙ c.requires.two) c.in_err-got.ensures.trace)
+    (prefix_along _ _ _ _ (group_same Around _ _ _ (length c.args.words.zero) (ap length c.in_ok-sent.ensures.zero)
+    (ap length c.in_ok-sent.ensures.one ∙ c.requires.one) (ap length c.in_ok-sent.ensures.two ∙ c.requires.two)) c.in_err-got.ensures.trace)
 
 pub returns-clause-trace : goal.returns-clause-trace
 returns-clause-trace g c =
-    group_along (λ (p : AllSeen). Grew c.args.trace.now c.carry_three-got.new.trace p) Around _ _ _ (length c.args.words.zero) (ap length c.in_ok-sent.ensures.zero)
-    (ap length c.in_ok-sent.ensures.one ∙ c.requires.one) (ap length c.in_ok-sent.ensures.two ∙ c.requires.two) c.in_ok-got.ensures.trace
+    grew_along _ _ _ _ (group_same Around _ _ _ (length c.args.words.zero) (ap length c.in_ok-sent.ensures.zero)
+    (ap length c.in_ok-sent.ensures.one ∙ c.requires.one) (ap length c.in_ok-sent.ensures.two ∙ c.requires.two)) c.in_ok-got.ensures.trace

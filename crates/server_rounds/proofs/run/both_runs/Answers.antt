@@ -8,6 +8,8 @@ use Rattle.server_rounds.specs.Groups.{by_server}
 use Rattle.server_rounds.specs.Plans.{read_for, sizes_for, views_of, words_for}
 use Rattle.server_rounds.specs.Shelves.{AreShelves, pieces_of, rows_of}
 use Rattle.server_rounds.specs.Visits.{run_columns}
+use Rattle.visit_trace.specs.Growing.{by_stopped}
+use Rattle.server_rounds.proofs.Noting.{query_after_keys, query_after_run, query_all, query_cut}
 use Rattle.server_rounds.proofs.Both.{after_keys, after_run, whole_pair}
 use Rattle.server_rounds.proofs.Together.{total-map, counted}
 use Rattle.server_rounds.proofs.Visiting.{all_cut, all_done, all_fails, all_none, all_then}
@@ -86,7 +88,7 @@ returns-in_err-total-clause-messages g c =
     let ending = total_ending z in
     let b0 = after_keys z ending words read pieces views k.0 k.2 k.3 in
     let r = rw plan at c.in_err-total.ensures.messages in
-    let went = went_both g.W.Wire.told g.W.Wire.alterations g.W.Wire.passes g.met.W.Wire.both_pass _ _ _ k.0 r.0 k.1 r.1 in
+    let went = went_both g.W.Wire.sight g.met.W.Wire.both_pass _ _ _ k.0 r.0 k.1 r.1 in
     (k.0 ++ r.0, went, r.2 words read k.0 b0, search rules)
 
 pub returns-in_err-weighted-clause-messages : goal.returns-in_err-weighted-clause-messages
@@ -105,8 +107,8 @@ returns-in_err-weighted-clause-messages g c =
     let r = rw plan at c.in_ok-total.ensures.messages in
     let w = rw (plan, c.in_ok-total.ensures.zero, c.in_ok-total.ensures.one, c.in_ok-total.ensures.two) at c.in_err-weighted.ensures.messages in
     let b1 = after_run z ending words read pieces views k.0 r.0 0 _ b0 r.2 r.3 in
-    let first = went_both g.W.Wire.told g.W.Wire.alterations g.W.Wire.passes g.met.W.Wire.both_pass _ _ _ k.0 r.0 k.1 r.1 in
-    let went = went_both g.W.Wire.told g.W.Wire.alterations g.W.Wire.passes g.met.W.Wire.both_pass _ _ _ (k.0 ++ r.0) w.0 first w.1 in
+    let first = went_both g.W.Wire.sight g.met.W.Wire.both_pass _ _ _ k.0 r.0 k.1 r.1 in
+    let went = went_both g.W.Wire.sight g.met.W.Wire.both_pass _ _ _ (k.0 ++ r.0) w.0 first w.1 in
     ((k.0 ++ r.0) ++ w.0, went, w.2 words read (k.0 ++ r.0) b1, search rules)
 
 pub returns-clause-messages : goal.returns-clause-messages
@@ -125,8 +127,8 @@ returns-clause-messages g c =
     let r = rw plan at c.in_ok-total.ensures.messages in
     let w = rw (plan, c.in_ok-total.ensures.zero, c.in_ok-total.ensures.one, c.in_ok-total.ensures.two) at c.in_ok-weighted.ensures.messages in
     let b1 = after_run z ending words read pieces views k.0 r.0 0 _ b0 r.2 r.3 in
-    let first = went_both g.W.Wire.told g.W.Wire.alterations g.W.Wire.passes g.met.W.Wire.both_pass _ _ _ k.0 r.0 k.1 r.1 in
-    let went = went_both g.W.Wire.told g.W.Wire.alterations g.W.Wire.passes g.met.W.Wire.both_pass _ _ _ (k.0 ++ r.0) w.0 first w.1 in
+    let first = went_both g.W.Wire.sight g.met.W.Wire.both_pass _ _ _ k.0 r.0 k.1 r.1 in
+    let went = went_both g.W.Wire.sight g.met.W.Wire.both_pass _ _ _ (k.0 ++ r.0) w.0 first w.1 in
     let some : 0 < count_of z = rw plan at c.in_ok-total.ensures.some in
     let part = w.2 words read (k.0 ++ r.0) b1 in
     ((k.0 ++ r.0) ++ w.0, went, part, whole_pair z ending words read pieces views k.0 r.0 w.0 0 _ _ some b0 b1 r.3 part w.3)
@@ -161,3 +163,35 @@ returns-clause-visits g c =
     let t = c.in_ok-total.ensures in
     let both = all_then held g.S.Shelf.visited (run_columns z) (run_columns z) _ _ _ _ _ t.zero t.one t.two (rw plan at t.visits) (rw plan at c.in_ok-weighted.ensures.visits) in
     all_done held g.S.Shelf.visited _ _ _ _ _ both
+
+pub returns-in_err-ready-clause-trace : goal.returns-in_err-ready-clause-trace
+returns-in_err-ready-clause-trace g c =
+    let held = g.S.Shelf.held in
+    let rows = counted held c.args.shelves.now.zero.items _ _ c.count_rows-rows.ensures.count c.as_slice.ensures.value in
+    let z = sizes_for c.args.keys.now (rows_of (map held c.args.shelves.now.zero.items)) in
+    by_stopped _ _ _ _ c.from_residual.ensures.0 (query_cut z _ _ c.in_err-ready.ensures.trace)
+
+pub returns-in_err-total-clause-trace : goal.returns-in_err-total-clause-trace
+returns-in_err-total-clause-trace g c =
+    let held = g.S.Shelf.held in
+    let rows = counted held c.args.shelves.now.zero.items _ _ c.count_rows-rows.ensures.count c.as_slice.ensures.value in
+    let z = sizes_for c.args.keys.now (rows_of (map held c.args.shelves.now.zero.items)) in
+    let plan : c.in_ok-ready.ready.plan ≡ z = c.in_ok-ready.ensures.plan ∙ ap (sizes_for c.args.keys.now) rows in
+    by_stopped _ _ _ _ c.from_residual-in_err-total.ensures.0 (query_after_keys z _ _ _ c.in_ok-ready.ensures.trace (rw plan at c.in_err-total.ensures.trace))
+
+pub returns-in_err-weighted-clause-trace : goal.returns-in_err-weighted-clause-trace
+returns-in_err-weighted-clause-trace g c =
+    let held = g.S.Shelf.held in
+    let rows = counted held c.args.shelves.now.zero.items _ _ c.count_rows-rows.ensures.count c.as_slice.ensures.value in
+    let z = sizes_for c.args.keys.now (rows_of (map held c.args.shelves.now.zero.items)) in
+    let plan : c.in_ok-ready.ready.plan ≡ z = c.in_ok-ready.ensures.plan ∙ ap (sizes_for c.args.keys.now) rows in
+    by_stopped _ _ _ _ c.from_residual-in_err-weighted.ensures.0
+    (query_after_run z _ _ _ _ c.in_ok-ready.ensures.trace (rw plan at c.in_ok-total.ensures.trace) (rw plan at c.in_err-weighted.ensures.trace))
+
+pub returns-clause-trace : goal.returns-clause-trace
+returns-clause-trace g c =
+    let held = g.S.Shelf.held in
+    let rows = counted held c.args.shelves.now.zero.items _ _ c.count_rows-rows.ensures.count c.as_slice.ensures.value in
+    let z = sizes_for c.args.keys.now (rows_of (map held c.args.shelves.now.zero.items)) in
+    let plan : c.in_ok-ready.ready.plan ≡ z = c.in_ok-ready.ensures.plan ∙ ap (sizes_for c.args.keys.now) rows in
+    query_all z _ _ _ _ c.in_ok-ready.ensures.trace (rw plan at c.in_ok-total.ensures.trace) (rw plan at c.in_ok-weighted.ensures.trace)
