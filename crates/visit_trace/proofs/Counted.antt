@@ -1,6 +1,6 @@
 -- The numbers of visits and words of a trace.
-use Rattle.std.proofs.Common.{◌≡◌, ◌∙◌, refl, sym, ap, subst, ℕ, zero, suc, ◌+◌, ◌-◌, ◌*◌, ◌<◌, ◌≤◌, List, [], ◌∷◌, ◌++◌, length, map, arith, length-append}
-use Rattle.std.proofs.Math.Nat.{mul-suc, suc-mul}
+use Rattle.std.proofs.Common.{◌≡◌, ◌∙◌, refl, sym, ap, subst, ℕ, zero, suc, ◌+◌, ◌-◌, ◌*◌, List, [], ◌∷◌, ◌++◌, length, map, arith, length-append}
+use Rattle.std.proofs.Math.Nat.{mul-suc}
 use Rattle.std.specs.List.{range_with_len}
 use Rattle.list_facts.specs.Count.{total}
 use Rattle.list_facts.specs.Listed.{listed}
@@ -39,8 +39,12 @@ length-opened Count value = refl
 length-opened Sum value = refl
 
 length-run : (z : Sizes) → length (run_columns z) ≡ count_of z + value_columns z.shape.aggregate
-length-run z = omega (arith, length-append (predicate_columns z) (opened_columns z.shape.aggregate z.widths.columns), length-listed (count_of z) (column_of z),
-    length-opened z.shape.aggregate z.widths.columns)
+length-run z = omega (
+  arith,
+  length-append (predicate_columns z) (opened_columns z.shape.aggregate z.widths.columns),
+  length-listed (count_of z) (column_of z),
+  length-opened z.shape.aggregate z.widths.columns,
+)
 
 twice : (c r q : ℕ) → q ≡ r + r → c * q ≡ 2 * (c * r)
 twice c r q e = let two : c * (r + r) ≡ 2 * (c * r) = grind arith in ap (λ (x : ℕ). c * x) e ∙ two
