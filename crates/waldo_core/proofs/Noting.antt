@@ -51,6 +51,7 @@ answer_adds m number query seed e agreed n r old new = by r
     same =
         ap (λ (w : Widths). trace_of (record { rows = length e.all; widths = w; shape = shaped query })) (ap (λ (x : Entries). x.widths) agreed.first)
         ∙ sym (ap (λ (o : Option ℕ). seen_over m.widths o query) agreed.agreed)
+
     by : (r : Result Answered AnswerFault) → AddsTrace e query old new r → AddsSeen m.widths m.core (events.Answer number query seed) old new (named (events.Answer number query seed) (replied n r))
     by (Ok a) g = subst (Grew old new) same g
     by (Err (faults.Altered total weighted)) g = subst (Grew old new) same g

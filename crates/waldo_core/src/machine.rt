@@ -346,7 +346,14 @@ impl Machine {
             return Ok(None);
         }
         let answered = agreed_rows::answer(
-            rt, alloc, agreed, query, seed, wire, trace, self.workers,
+            rt,
+            alloc,
+            agreed,
+            query,
+            seed,
+            wire,
+            trace,
+            self.workers,
         );
         reply_over(agreed.rows(), answered)
     }
