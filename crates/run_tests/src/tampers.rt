@@ -152,6 +152,7 @@ fn tampers<R: Abort + Threads + Sync>(
     let mut source = MemorySource::new(alloc, input.as_bytes(), &[])?;
     let mut sink = MemorySink::new(alloc, 1000, &[])?;
     let mut wires = straight_wires(alloc)?;
+    assert_eq!(rt; wires.len(), 16);
     let status = run_still(rt, alloc, &list, &mut source, &mut sink, &mut wires);
     Ok((status, sink))
 }
@@ -191,6 +192,7 @@ fn the_wire_below_is_not_shifted(rt: HostRuntime) -> Result<(), Fail> {
     for _ in 0..16 {
         wires.push(RecordWire::new(alloc)).ok().ok_or("memory")?;
     }
+    assert_eq!(rt; wires.len(), 16);
     let list = words(alloc, COUNT, "6:0:1").ok().ok_or("memory")?;
     let mut source = MemorySource::new(alloc, INPUT.as_bytes(), &[])
         .ok()
