@@ -24,6 +24,7 @@ mod bits;
 mod carry;
 mod held;
 mod keys;
+mod noted;
 mod opened;
 mod part;
 mod plan;
