@@ -185,12 +185,13 @@ def smaller(words, data):
 
 
 def smallest(program, words, data):
-    """A case in which nothing can be left out, if it is found within some runs; a case that fails only now and then may stay large."""
-    runs, going = 0, True
-    while going and runs < 2000:
+    """A case in which nothing can be left out, as far as a minute of tries goes."""
+    until, going = time.monotonic() + 60, True
+    while going:
         going = False
         for fewer, less in smaller(words, data):
-            runs += 1
+            if time.monotonic() > until:
+                return words, data
             if fault_of(program, fewer, less):
                 words, data, going = fewer, less, True
                 break
