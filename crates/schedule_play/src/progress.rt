@@ -17,9 +17,9 @@ use report_lines::Report;
 use ring128::Memory;
 use std::alloc::Global;
 use std::thread::Threads;
+use visit_trace::Trace;
 use waldo_core::{Event, Machine, Reply, StepFault};
 use waldo_words::Step;
-use visit_trace::Trace;
 use wire_line::Wire;
 
 /// How many actors there are, each with a wire.
