@@ -8,6 +8,7 @@ use std::process::Abort;
 use std::test::Fail;
 use std::thread::Threads;
 use table_schema::{Aggregate, Kind, Row, Widths};
+use visit_trace::Trace;
 use waldo_core::*;
 use wire_line::StraightWire;
 
@@ -89,10 +90,25 @@ fn reply<R: Abort + Threads + Sync>(
     {
         return Err("a row of other widths".into());
     }
-    match machine.step(rt, alloc, event, &mut wire) {
-        Ok(reply) => Ok(Some(reply)),
-        Err(StepFault::NotAllowed { .. }) => Ok(None),
-        Err(StepFault::Memory) => Err("no memory".into()),
+    let mut trace = Trace::new(alloc);
+    let said = match machine.step(rt, alloc, event, &mut wire, &mut trace) {
+        Ok(reply) => Some(reply),
+        Err(StepFault::NotAllowed { .. }) => None,
+        Err(StepFault::Memory) => return Err("no memory".into()),
+    };
+    check_trace(rt, &trace, said);
+    Ok(said)
+}
+
+// Of an answer over one chunk of rows each server sees two visits and seven messages, of any other event nothing.
+fn check_trace<R: Abort>(rt: &R, trace: &Trace, said: Option<Reply>) {
+    let (visits, lengths) = match said {
+        Some(Reply::Answered { rows, .. }) => (if rows == 0 { 0 } else { 2 }, 7),
+        _ => (0, 0),
+    };
+    for server in 0..3u8 {
+        assert_eq!(rt; trace.visits(server).len(), visits);
+        assert_eq!(rt; trace.lengths(server).len(), lengths);
     }
 }
 

@@ -2,6 +2,10 @@
 #![tactic(auto)]
 
 #[cfg(test)]
+mod faults;
+#[cfg(test)]
 mod races;
 #[cfg(test)]
 mod runs;
+#[cfg(test)]
+mod tampers;

@@ -3,7 +3,7 @@ ghost use Rattle.std.specs.Prelude.{ℕ, ◌≡◌, ◌+◌, ◌*◌, ◌^◌, �
 ghost use Rattle.schedule_play.specs.Appended.{stage_with_rows};
 ghost use Rattle.schedule_play.specs.Leads.{Leads, Stops};
 ghost use Rattle.schedule_play.specs.Plays.{seen};
-ghost use Rattle.schedule_play.specs.Stages.{actor_in, event_of, first_stage, is_asked, lines_of, with_reply};
+ghost use Rattle.schedule_play.specs.Stages.{HaveWires, actor_in, event_of, first_stage, is_asked, lines_of, with_reply};
 ghost use Rattle.waldo_core.specs.Step.{is_altered};
 ghost use Rattle.schedule_play.specs.Tasks.{IsSetting};
 
@@ -19,6 +19,7 @@ use std::alloc::Global;
 use std::thread::Threads;
 use waldo_core::{Event, Machine, Reply, StepFault};
 use waldo_words::Step;
+use visit_trace::Trace;
 use wire_line::Wire;
 
 /// How many actors there are, each with a wire.
@@ -172,7 +173,7 @@ impl Progress {
         Ok(())
     }
 
-    /// Does a step. Out of memory, the first messages of an answer may have been carried.
+    /// Does a step over its actor's wire. Out of memory, the first messages of an answer may have been carried.
     fn step<R: Threads + Sync, W: Wire>(
         &mut self,
         rt: &R,
@@ -185,8 +186,8 @@ impl Progress {
         requires legal { IsSetting setting.now.widths (seen setting.now) }
         requires ready { IsReady setting.now.widths (seen setting.now) self.old }
         requires few { self.old.done < 2 ^ 40 }
-        requires wires { length wires.old.items ≡ 16 }
-        ensures wires { length wires.new.items ≡ 16 }
+        requires wires { actor_in step < 16 → actor_in step < length wires.old.items }
+        ensures wires { length wires.new.items ≡ length wires.old.items }
         ensures ready { OnOk result (IsReady setting.now.widths (seen setting.now) self.new) }
         ensures done { OnOk result (self.new.done ≡ self.old.done + 1) }
         ensures leads { OnOk result (Leads W.sight setting.now.widths (seen setting.now) style (stage_of self.old) wires.old.items
@@ -203,7 +204,8 @@ impl Progress {
             return Err(refused);
         };
         let wire = &mut wires[usize::from(actor)];
-        match self.machine.step(rt, alloc, event, wire) {
+        let mut trace = Trace::new(alloc); // nobody prints it
+        match self.machine.step(rt, alloc, event, wire, &mut trace) {
             Ok(reply) => {
                 self.count(setting, style, step, reply)?;
                 Ok(())
@@ -226,8 +228,8 @@ impl Progress {
         requires legal { IsSetting setting.now.widths (seen setting.now) }
         requires ready { IsReady setting.now.widths (seen setting.now) self.old }
         requires few { self.old.done + length steps.now < 2 ^ 40 }
-        requires wires { length wires.old.items ≡ 16 }
-        ensures wires { length wires.new.items ≡ 16 }
+        requires wires { HaveWires (length wires.old.items) steps.now }
+        ensures wires { length wires.new.items ≡ length wires.old.items }
         ensures ready { OnOk result (IsReady setting.now.widths (seen setting.now) self.new) }
         ensures done { OnOk result (self.new.done ≡ self.old.done + length steps.now) }
         ensures leads { OnOk result (Leads W.sight setting.now.widths (seen setting.now) style (stage_of self.old) wires.old.items

@@ -1,5 +1,6 @@
 pub mod AtOnce
 pub mod Groups
+pub mod OneServer
 pub mod Rounds
 pub mod Shelves
 pub mod Plans

@@ -1,11 +1,12 @@
 //! A run, and both runs of a query.
-ghost use Rattle.std.specs.Prelude.{◌≡◌, ◌<◌, ◌≤◌, ◌+◌, List, [], ◌∷◌, ◌++◌, map, IfOk};
+ghost use Rattle.std.specs.Prelude.{◌≡◌, ◌<◌, ◌≤◌, ◌+◌, List, [], ◌∷◌, ◌++◌, Some, map, IfOk};
 ghost use Rattle.wire_line.specs.declared.message.Message.{Message};
 ghost use Rattle.wire_line.specs.Messages.{Went};
 ghost use Rattle.transcript.specs.Setup.{Ending, column_of, count_of};
 ghost use Rattle.transcript.specs.Formulas.{setup_for, total_ending};
 ghost use Rattle.transcript.specs.Transcript.{IsPart, IsTranscript, opened_of};
 ghost use Rattle.server_rounds.specs.Groups.{by_server, AreReshared, IsGroup};
+ghost use Rattle.server_rounds.specs.OneServer.{OneServer};
 ghost use Rattle.server_rounds.specs.Plans.{sizes_for, views_of};
 ghost use Rattle.server_rounds.specs.Rounds.{bits_of};
 ghost use Rattle.server_rounds.specs.Runs.{HaveProducts, IsPredicatePart, IsRun, IsRunPart};
@@ -172,6 +173,9 @@ fn run_once<R: Threads + Sync, S: Shelf + Send, W: Wire>(
 /// server, at most 65,536. In each run a server visits the predicates' columns in order, and for a sum then the value's column,
 /// each chunk of a column once, rising. The only error is want of memory; the messages carried by then, and the visits of each
 /// shelf, are the first ones of the query.
+///
+/// Where a wire alters messages, and all altered ones have one server as their sender or receiver, the two openings are what the
+/// rows' chains of products add up to with the shifts of that server's messages, with the weights of their run.
 pub fn both_runs<R: Threads + Sync, S: Shelf + Send, W: Wire>(
     rt: &R,
     alloc: Global,
@@ -195,7 +199,16 @@ pub fn both_runs<R: Threads + Sync, S: Shelf + Send, W: Wire>(
         × IsPart setup ms
         × IfOk result (λ pair. IsTranscript setup ms × (pair.total ≡ opened_of setup ms 0) × (pair.weighted ≡ opened_of setup ms 1)) }
     ensures trace { GrewBy trace.old trace.new (trace_of (sizes_for keys.now (rows_of (map S.held shelves.old.zero.items)))) result }
+    // Where the wire reports its messages and one server is an end of each altered one, both openings are sums of shifted chains.
+    ensures one_server { let pieces = by_server (pieces_of (map S.held shelves.old.zero.items))
+        (pieces_of (map S.held shelves.old.one.items)) (pieces_of (map S.held shelves.old.two.items)) in
+        let setup = setup_for keys.now.query keys.now.widths keys.now.seed (rows_of (map S.held shelves.old.zero.items)) pieces in
+        IfOk result (λ pair. (old ms : List Message) → W.sight.reported wire.old ≡ Some old
+        → W.sight.reported wire.new ≡ Some (old ++ ms)
+        → OneServer setup keys.now.query keys.now.seed ms pair) }
 {
+    transcript::laws::shifted_open();
+    keys.shape();
     let rows = count_rows(shelves.zero.as_slice());
     let ready = Ready::send(alloc, keys, rows, wire, trace)?;
     let total = run_once(rt, alloc, &ready, 0, shelves, wire, trace)?;

@@ -9,6 +9,7 @@ use std::process::Abort;
 use std::sync::Wait;
 use std::thread::{Threads, join_mut};
 use table_schema::Aggregate;
+use visit_trace::Trace;
 use waldo_table::{Answered, AskFault, Pass, Table};
 use wire_line::StraightWire;
 
@@ -79,8 +80,25 @@ fn count_twice<R: Abort + Threads + Wait + Sync>(
     ensures { IsOf table.now pass.new }
 {
     let mut wire = StraightWire::new();
-    let first = ask(rt, alloc, table, pass, Aggregate::Count, &mut wire);
-    let second = ask(rt, alloc, table, pass, Aggregate::Count, &mut wire);
+    let mut trace = Trace::new(alloc);
+    let first = ask(
+        rt,
+        alloc,
+        table,
+        pass,
+        Aggregate::Count,
+        &mut wire,
+        &mut trace,
+    );
+    let second = ask(
+        rt,
+        alloc,
+        table,
+        pass,
+        Aggregate::Count,
+        &mut wire,
+        &mut trace,
+    );
     are_fair(first, second)
 }
 
@@ -150,7 +168,7 @@ fn run_four<R: Abort + Threads + Wait + Sync>(
     );
 }
 
-// A job with a pass of its own, which has so many draws.
+// A job with a pass of its own, which has `room` draws.
 fn new_job(table: &Table, pass: &mut Pass, room: u64, work: Work) -> Job
     requires pass { IsOf table.now pass.old }
     requires room { room ≤ pass.old.sight.room }
@@ -222,7 +240,7 @@ struct Outcome {
     sum: Result<Answered, AskFault>,
 }
 
-// After a race the floor is told, and all rows are counted and summed.
+// After a race the floor is reported, and all rows are counted and summed.
 fn raced<R: Abort + Threads + Wait + Sync>(
     rt: &R,
     alloc: Global,
@@ -234,12 +252,29 @@ fn raced<R: Abort + Threads + Wait + Sync>(
 {
     let [first, second, third, fourth] = race(rt, alloc, table, pass);
     let mut wire = StraightWire::new();
+    let mut trace = Trace::new(alloc);
     Outcome {
         places: first | second,
         askers: third & fourth,
         floor: pass.floor(),
-        count: ask(rt, alloc, table, pass, Aggregate::Count, &mut wire),
-        sum: ask(rt, alloc, table, pass, Aggregate::Sum, &mut wire),
+        count: ask(
+            rt,
+            alloc,
+            table,
+            pass,
+            Aggregate::Count,
+            &mut wire,
+            &mut trace,
+        ),
+        sum: ask(
+            rt,
+            alloc,
+            table,
+            pass,
+            Aggregate::Sum,
+            &mut wire,
+            &mut trace,
+        ),
     }
 }
 
@@ -249,7 +284,7 @@ fn race_anew<R: Abort + Threads + Wait + Sync>(rt: &R, alloc: Global) -> Result<
     Ok(raced(rt, alloc, &table, &mut pass))
 }
 
-// Each of the six places is drawn once; no asker's number of rows falls or is above six; the gathered pass was told of all six rows,
+// Each of the six places is drawn once; no asker's number of rows falls or is above six; the gathered pass learned of all six rows,
 // and asks over them: three have bucket 3, with the values 1, 4 and 16.
 #[test]
 fn writers_and_askers_at_once(rt: HostRuntime) -> Result<(), Memory> {

@@ -10,6 +10,7 @@ use std::process::Abort;
 use std::sync::Wait;
 use std::thread::{Threads, join_mut};
 use table_schema::Aggregate;
+use visit_trace::Trace;
 use waldo_table::{AskFault, Pass, Table};
 use wire_line::{RecordWire, Shift, ShiftWire, Shifts, StraightWire, Wire};
 
@@ -44,7 +45,8 @@ fn sum<R: Abort + Threads + Sync, W: Wire>(
     requires { agreed.now.widths ≡ table.now.widths }
 {
     let query = query(rt, Aggregate::Sum, table);
-    answer(rt, alloc, agreed, &query, &seed(), wire, 2)
+    let mut trace = Trace::new(alloc);
+    answer(rt, alloc, agreed, &query, &seed(), wire, &mut trace, 2)
 }
 
 // Appends two rows more, with bucket 3 and the values 100 and 200.
@@ -105,11 +107,20 @@ fn sum_thrice<R: Abort + Threads + Wait + Sync>(
     let beside = sum_beside(rt, alloc, table, &agreed, &mut other);
     let mut wire = StraightWire::new();
     let after = sum(rt, alloc, table, &agreed, &mut wire);
-    let all = ask(rt, alloc, table, pass, Aggregate::Sum, &mut wire);
+    let mut trace = Trace::new(alloc);
+    let all = ask(
+        rt,
+        alloc,
+        table,
+        pass,
+        Aggregate::Sum,
+        &mut wire,
+        &mut trace,
+    );
     Ok((beside, after, all))
 }
 
-// The same on a table of its own.
+// Sums three times on a table of its own.
 fn sum_thrice_anew<R: Abort + Threads + Wait + Sync>(
     rt: &R,
     alloc: Global,
@@ -162,7 +173,7 @@ fn sum_over<R: Abort + Threads + Sync, W: Wire>(
     (answered, wire.altered())
 }
 
-// Over a wire that alters, and over one that doesn't; and the query's key.
+// Sums over a wire that alters, and over one that does not; and the query's key.
 fn sums_over<R: Abort + Threads + Wait + Sync>(
     rt: &R,
     alloc: Global,
@@ -179,7 +190,7 @@ fn sums_over<R: Abort + Threads + Wait + Sync>(
     Ok((altered, honest, key))
 }
 
-// The same on a table of its own.
+// Sums over both wires on a table of its own.
 fn sums_over_anew<R: Abort + Threads + Wait + Sync>(
     rt: &R,
     alloc: Global,

@@ -129,5 +129,6 @@ TotalSeesColumns = (z : Sizes) → SeesColumns z.widths.columns (total_ending z)
 -- of the pieces just the columns that there are count for the messages
 abbrev pub ColumnsSuffice : Type 0
 ColumnsSuffice =
-    (s : Setup) (pieces : ℕ → Pieces) (ms : List Message) → HasColumns s.sizes → SeesColumns s.sizes.widths.columns s.ending → SamePieces s.sizes.widths.columns s.pieces pieces
+    (s : Setup) (pieces : ℕ → Pieces) (ms : List Message) → HasColumns s.sizes → SeesColumns s.sizes.widths.columns s.ending
+    → SamePieces s.sizes.widths.columns s.pieces pieces
     → IsPart s ms → IsPart (with_pieces s pieces) ms

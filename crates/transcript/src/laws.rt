@@ -18,7 +18,7 @@ pub fn runs_open()
     ensures { RunsOpen }
 {}
 
-/// The same for both runs, where the weights of run 0 are 1: the total is the plain answer, and the weighted total the key
+/// Both runs open what is plain, where the weights of run 0 are 1: the total is the plain answer, and the weighted total the key
 /// times it.
 pub fn pair_opens()
     ensures { PairOpens }

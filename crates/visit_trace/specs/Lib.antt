@@ -1,4 +1,5 @@
 pub mod Sizes
 pub mod Seen
 pub mod Expected
+pub mod Counts
 pub mod Growing

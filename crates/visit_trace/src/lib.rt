@@ -13,6 +13,7 @@
 #![tactic(auto)]
 
 mod ahead;
+pub mod laws;
 mod sizes;
 mod trace;
 

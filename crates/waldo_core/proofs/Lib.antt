@@ -11,6 +11,7 @@ pub mod InRows
 pub mod Journals
 pub mod Legal
 pub mod Looked
+pub mod Noting
 pub mod OpenDraws
 pub mod Placed
 pub mod Shares

@@ -8,3 +8,4 @@ pub mod Machines
 pub mod Orders
 pub mod Outcomes
 pub mod Step
+pub mod Traces

@@ -14,6 +14,7 @@ ghost use Rattle.waldo_core.specs.Machines.{HasOpenFault, IsHeld, Stepped, new_m
 ghost use Rattle.waldo_core.specs.Outcomes.{Quietly, named};
 ghost use Rattle.waldo_core.specs.Step.{is_altered};
 ghost use Rattle.waldo_core.specs.Held.{IsAgreedBy, fresh_state};
+ghost use Rattle.waldo_core.specs.Traces.{AddsSeen};
 ghost use Rattle.wire_line.specs.Sights.{HasAltered};
 
 use crate::actor::ActorState;
@@ -34,6 +35,7 @@ use std::alloc::Global;
 use std::marker::Model;
 use std::thread::Threads;
 use table_schema::{Row, Widths};
+use visit_trace::Trace;
 use wire_line::Wire;
 
 /// The clients and the three servers of a table: the order of draws, which the clients know, the servers' logs of pieces,
@@ -182,13 +184,15 @@ impl Machine {
     /// Does an event. An answer whose messages were received as they were sent is the plain one, whatever the wire did before.
     /// `NotAllowed` comes where the event has no case as things stand, `Memory` at any time; the machine is then as before. Out of
     /// memory, the first messages of an answer may have been carried; other events, and one that is refused, leave the wire as it
-    /// is.
+    /// is. An answer notes in the trace what the servers see of it, which follows from its sizes, also where it is `Altered`; out of
+    /// memory a prefix of that. Every other event, and one that is refused, leaves the trace as it is.
     pub fn step<R: Threads + Sync, W: Wire>(
         &mut self,
         rt: &R,
         alloc: Global,
         event: Event,
         wire: &mut W,
+        trace: &mut Trace,
     ) -> Result<Reply, StepFault>
         requires held { IsHeld self.old.widths event }
         ensures stepped { (ms : List Message) × (pair : OpenedPair) × Went W.sight wire.old ms wire.new
@@ -199,8 +203,10 @@ impl Machine {
         ensures legal { IsLegal self.new.core }
         ensures quiet { IsQuiet event → wire.new ≡ wire.old }
         ensures refused { (given : Event) → result ≡ Err (StepFault.NotAllowed given) → wire.new ≡ wire.old }
+        ensures trace { AddsSeen self.old.widths self.old.core event trace.old trace.new result }
+        ensures unseen { IsQuiet event → trace.new ≡ trace.old }
     {
-        let done = self.act(rt, alloc, event, wire);
+        let done = self.act(rt, alloc, event, wire, trace);
         let _ = &self.order; // a look at the machine, whose core is legal
         outcome_of(event, done)
     }
@@ -212,6 +218,7 @@ impl Machine {
         alloc: Global,
         event: Event,
         wire: &mut W,
+        trace: &mut Trace,
     ) -> Result<Option<Reply>, Memory>
         requires held { IsHeld self.old.widths event }
         ensures stepped { (ms : List Message) × (pair : OpenedPair) × Went W.sight wire.old ms wire.new
@@ -219,6 +226,8 @@ impl Machine {
             × (IsHonest ms → IfOk (named event result) (λ reply. IsPlain self.old.core event pair × (is_altered reply ≡ false))) }
         ensures quiet { IsQuiet event → wire.new ≡ wire.old }
         ensures refused { result ≡ Ok None → wire.new ≡ wire.old }
+        ensures trace { AddsSeen self.old.widths self.old.core event trace.old trace.new (named event result) }
+        ensures unseen { IsQuiet event → trace.new ≡ trace.old }
     {
         match event {
             Event::Draw { actor, row, seed } => self.draw(alloc, actor, &row, &seed),
@@ -226,7 +235,7 @@ impl Machine {
             Event::Look { actor, server } => Ok(self.look(actor, server)),
             Event::Fix { actor } => self.fix(alloc, actor),
             Event::Answer { actor, query, seed } => {
-                self.answer(rt, alloc, actor, &query, &seed, wire)
+                self.answer(rt, alloc, actor, &query, &seed, wire, trace)
             }
         }
     }
@@ -320,12 +329,15 @@ impl Machine {
         query: &Query,
         seed: &Seed,
         wire: &mut W,
+        trace: &mut Trace,
     ) -> Result<Option<Reply>, Memory>
         ensures stepped { let event = Event.Answer number query.now seed.now in
             (ms : List Message) × (pair : OpenedPair) × Went W.sight wire.old ms wire.new
             × Stepped self.now event ms pair self.now (named event result)
             × (IsHonest ms → IfOk (named event result) (λ reply. IsPlain self.now.core event pair × (is_altered reply ≡ false))) }
         ensures refused { result ≡ Ok None → wire.new ≡ wire.old }
+        ensures trace { let event = Event.Answer number query.now seed.now in
+            AddsSeen self.now.widths self.now.core event trace.old trace.new (named event result) }
     {
         let Some(agreed) = self.agreed(number) else {
             return Ok(None);
@@ -333,7 +345,16 @@ impl Machine {
         if !query.suits(&self.widths) {
             return Ok(None);
         }
-        let answered = agreed_rows::answer(rt, alloc, agreed, query, seed, wire, self.workers);
+        let answered = agreed_rows::answer(
+            rt,
+            alloc,
+            agreed,
+            query,
+            seed,
+            wire,
+            trace,
+            self.workers,
+        );
         reply_over(agreed.rows(), answered)
     }
 }

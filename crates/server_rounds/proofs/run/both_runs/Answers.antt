@@ -11,6 +11,7 @@ use Rattle.server_rounds.specs.Visits.{run_columns}
 use Rattle.visit_trace.specs.Growing.{by_stopped}
 use Rattle.server_rounds.proofs.Noting.{query_after_keys, query_after_run, query_all, query_cut}
 use Rattle.server_rounds.proofs.Both.{after_keys, after_run, whole_pair}
+use Rattle.server_rounds.proofs.OneServer.{one_server, told_messages}
 use Rattle.server_rounds.proofs.Together.{total-map, counted}
 use Rattle.server_rounds.proofs.Visiting.{all_cut, all_done, all_fails, all_none, all_then}
 use Rattle.server_rounds.proofs.run.both_runs.Goals as goal
@@ -195,3 +196,10 @@ returns-clause-trace g c =
     let z = sizes_for c.args.keys.now (rows_of (map held c.args.shelves.now.zero.items)) in
     let plan : c.in_ok-ready.ready.plan ≡ z = c.in_ok-ready.ensures.plan ∙ ap (sizes_for c.args.keys.now) rows in
     query_all z _ _ _ _ c.in_ok-ready.ensures.trace (rw plan at c.in_ok-total.ensures.trace) (rw plan at c.in_ok-weighted.ensures.trace)
+
+pub returns-clause-one_server : goal.returns-clause-one_server
+returns-clause-one_server g c old ms told_old told_new =
+    let m = returns-clause-messages g c in
+    let k = c.args.keys.now in
+    let these : m.0 ≡ ms = told_messages g.W.Wire.sight.reported _ _ old m.0 ms told_old told_new m.1.listed in
+    one_server c.shifted_open.ensures k _ _ m.0 ms _ c.shape.ensures.add_up c.shape.ensures.suits m.3.0 m.3.1 m.3.2 these

@@ -3,6 +3,7 @@ use Rattle.wire_line.specs.Carried.{went_none}
 use Rattle.waldo_core.specs.declared.events.Event.TheVariants as events
 use Rattle.waldo_core.proofs.Accepted.{quiet_plain}
 use Rattle.waldo_core.proofs.Acts.{nothing, quiet_stepped}
+use Rattle.waldo_core.proofs.Noting.{quiet_adds}
 use Rattle.waldo_core.proofs.machine.Machine.act.Goals as goal
 
 pub returns-in-Draw-clause-stepped : goal.returns-in-Draw-clause-stepped
@@ -44,3 +45,19 @@ returns-in-Fix-clause-stepped g c =
       quiet_stepped c.args.self.now c.args.event event c.fix.new.self c.fix.result c.in-Fix.is c.fix.ensures,
       λ honest. quiet_plain c.args.self.now c.args.event event c.fix.new.self c.fix.result c.in-Fix.is tt tt c.fix.ensures,
     )
+
+pub returns-in-Draw-clause-trace : goal.returns-in-Draw-clause-trace
+returns-in-Draw-clause-trace g c =
+    quiet_adds c.args.self.now.widths c.args.self.now.core c.args.event (events.Draw c.in-Draw.actor c.in-Draw.row c.in-Draw.seed) c.args.trace.now c.draw.result c.in-Draw.is tt
+
+pub returns-in-Place-clause-trace : goal.returns-in-Place-clause-trace
+returns-in-Place-clause-trace g c =
+    quiet_adds c.args.self.now.widths c.args.self.now.core c.args.event (events.Place c.in-Place.actor c.in-Place.server) c.args.trace.now (Ok c.place.result) c.in-Place.is tt
+
+pub returns-in-Look-clause-trace : goal.returns-in-Look-clause-trace
+returns-in-Look-clause-trace g c =
+    quiet_adds c.args.self.now.widths c.args.self.now.core c.args.event (events.Look c.in-Look.actor c.in-Look.server) c.args.trace.now (Ok c.look.result) c.in-Look.is tt
+
+pub returns-in-Fix-clause-trace : goal.returns-in-Fix-clause-trace
+returns-in-Fix-clause-trace g c =
+    quiet_adds c.args.self.now.widths c.args.self.now.core c.args.event (events.Fix c.in-Fix.actor) c.args.trace.now c.fix.result c.in-Fix.is tt

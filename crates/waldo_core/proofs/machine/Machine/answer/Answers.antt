@@ -6,6 +6,7 @@ use Rattle.agreed_rows.specs.Agreed.{Entries}
 use Rattle.waldo_core.specs.Machines.{Seen}
 use Rattle.waldo_core.proofs.Acts.{nothing}
 use Rattle.waldo_core.proofs.Answering.{answer_plain, answer_stepped, not_agreed, not_suited}
+use Rattle.waldo_core.proofs.Noting.{answer_adds}
 use Rattle.waldo_core.proofs.machine.Machine.answer.Goals as goal
 
 pub returns-in_default-clause-stepped : goal.returns-in_default-clause-stepped
@@ -46,3 +47,9 @@ returns-clause-stepped g c =
       answer_stepped m c.args.number c.args.query.now c.args.seed.now c.in-Some.agreed.now agreed suits h.0 h.1 c.rows.result c.answer-answered.result c.rows.ensures.rows h.3,
       λ honest. answer_plain m c.args.number c.args.query.now c.args.seed.now c.in-Some.agreed.now agreed suits h.0 h.1 c.rows.result c.answer-answered.result h.3 (h.4 honest),
     )
+
+pub returns-clause-trace : goal.returns-clause-trace
+returns-clause-trace g c =
+    rw c.reply_over.ensures
+    (answer_adds c.args.self.now c.args.number c.args.query.now c.args.seed.now c.in-Some.agreed.now c.in-Some.ensures.some c.rows.result c.answer-answered.result _ _
+    c.answer-answered.ensures.trace)

@@ -13,3 +13,6 @@ returns-clause-accepted g c still =
 
 pub returns-clause-refused : goal.returns-clause-refused
 returns-clause-refused g c given e = c.act-done.ensures.refused (refused_none c.args.event given c.act-done.result (sym c.outcome_of.ensures ∙ e))
+
+pub returns-clause-trace : goal.returns-clause-trace
+returns-clause-trace g c = rw c.outcome_of.ensures c.act-done.ensures.trace
