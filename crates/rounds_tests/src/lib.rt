@@ -1,5 +1,7 @@
-//! Tests of both runs of a query over three servers, over public items alone.
+//! Tests of both runs of a query over three servers, and of what the servers see of them, over public items alone.
 #![tactic(auto)]
 
 #[cfg(test)]
 mod queries;
+#[cfg(test)]
+mod traces;

@@ -10,6 +10,7 @@ use std::alloc::Global;
 use std::process::Abort;
 use std::thread::Threads;
 use table_schema::{Aggregate, Kind, Widths};
+use visit_trace::Trace;
 use wire_line::RecordWire;
 
 // A column of four buckets and one of two.
@@ -136,6 +137,7 @@ fn ask<R: Threads + Sync>(
     widths: &Widths,
     keys: &Keys,
     wire: &mut RecordWire,
+    trace: &mut Trace,
 ) -> Result<OpenedPair, Memory>
     requires widths { keys.now.widths ≡ widths.now }
     requires columns { widths.now.columns ≡ 2 }
@@ -143,7 +145,7 @@ fn ask<R: Threads + Sync>(
     requires second { slice_index widths.now.bits 1 ≡ 1 }
 {
     let mut shelves = servers(alloc, widths)?;
-    both_runs(rt, alloc, &mut shelves, keys, wire)
+    both_runs(rt, alloc, &mut shelves, keys, wire, trace)
 }
 
 #[test]
@@ -152,7 +154,8 @@ fn both_runs_open_a_sum(rt: HostRuntime) -> Result<(), Memory> {
     let widths = WIDTHS;
     let keys = keys(&rt, alloc, &widths, Aggregate::Sum, 1)?;
     let mut wire = RecordWire::new(alloc);
-    let pair = ask(&rt, alloc, &widths, &keys, &mut wire)?;
+    let mut trace = Trace::new(alloc);
+    let pair = ask(&rt, alloc, &widths, &keys, &mut wire, &mut trace)?;
     assert_eq!(rt; pair.total, 15);
     assert_eq!(rt; pair.weighted, mul(15, keys.key()));
     assert_eq!(rt; wire.messages().len(), 15);
@@ -165,7 +168,8 @@ fn two_predicates_have_a_product(rt: HostRuntime) -> Result<(), Memory> {
     let widths = WIDTHS;
     let keys = keys(&rt, alloc, &widths, Aggregate::Count, 2)?;
     let mut wire = RecordWire::new(alloc);
-    let pair = ask(&rt, alloc, &widths, &keys, &mut wire)?;
+    let mut trace = Trace::new(alloc);
+    let pair = ask(&rt, alloc, &widths, &keys, &mut wire, &mut trace)?;
     assert_eq!(rt; pair.total, 1);
     assert_eq!(rt; pair.weighted, keys.key());
     assert_eq!(rt; wire.messages().len(), 27);
@@ -187,12 +191,13 @@ fn run_of_two<R: Threads + Sync>(
     requires second { slice_index widths.now.bits 1 ≡ 1 }
 {
     let mut shelves = servers(alloc, widths)?;
-    let ready = Ready::send(alloc, keys, 3, wire)?;
-    let bits = ready.bits(rt, alloc, 0, &mut shelves, wire)?;
-    let product = bits.product(rt, alloc, &ready, wire)?;
-    let more = product.bits(rt, alloc, &ready, &mut shelves, wire)?;
-    let whole = more.product(rt, alloc, &ready, wire)?;
-    whole.reveal(rt, alloc, &ready, &mut shelves, wire)
+    let mut trace = Trace::new(alloc);
+    let ready = Ready::send(alloc, keys, 3, wire, &mut trace)?;
+    let bits = ready.bits(rt, alloc, 0, &mut shelves, wire, &mut trace)?;
+    let product = bits.product(rt, alloc, &ready, wire, &mut trace)?;
+    let more = product.bits(rt, alloc, &ready, &mut shelves, wire, &mut trace)?;
+    let whole = more.product(rt, alloc, &ready, wire, &mut trace)?;
+    whole.reveal(rt, alloc, &ready, &mut shelves, wire, &mut trace)
 }
 
 #[test]
