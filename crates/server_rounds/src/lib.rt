@@ -33,6 +33,7 @@ mod rounds;
 mod run;
 mod servers;
 mod shelves;
+mod sums;
 mod values;
 mod way;
 
@@ -43,6 +44,7 @@ pub use opened::{Opened, OpenedPair};
 pub use part::with_zeros;
 pub use product::Product;
 pub use ready::Ready;
+pub use rounds::open_words;
 pub use run::{both_runs, run_products};
 pub use servers::Servers;
 pub use shelves::count_rows;

@@ -94,8 +94,9 @@ pub(crate) fn product_round<R: Threads + Sync, W: Wire>(
     Ok(held)
 }
 
-// Each server sends its word to the client, which adds up what it received.
-fn opened<W: Wire>(wire: &mut W, words: Trio) -> Result<u128, Memory>
+/// Carries a word of each server to the client, which adds up what it received. The only error is out of memory; the first of these
+/// messages may then have been carried.
+pub fn open_words<W: Wire>(wire: &mut W, words: Trio) -> Result<u128, Memory>
     requires zero { length words.zero ≡ 1 }
     requires one { length words.one ≡ 1 }
     requires two { length words.two ≡ 1 }
@@ -146,6 +147,6 @@ pub(crate) fn opening_round<R: Threads + Sync, S: Shelf + Send, W: Wire>(
         &mut shelves.two,
     );
     let words = all_three(zero, others)?;
-    let total = opened(wire, words)?;
+    let total = open_words(wire, words)?;
     Ok(total)
 }

@@ -9,14 +9,14 @@ pub returns-in_err-words-clause-messages : goal.returns-in_err-words-clause-mess
 returns-in_err-words-clause-messages g c =
     ([], went_none g.W.Wire.told g.W.Wire.alterations g.W.Wire.passes _ _ refl refl (g.met.W.Wire.none_passes _), group_none _ _, search rules)
 
-pub opened-requires-clause-zero : goal.opened-requires-clause-zero
-opened-requires-clause-zero g c = IfOk-at_ok _ c.in_ok-words.ensures.at0 c.openings_at_once-zero.ensures.zero.long
+pub open_words-requires-clause-zero : goal.open_words-requires-clause-zero
+open_words-requires-clause-zero g c = IfOk-at_ok _ c.in_ok-words.ensures.at0 c.openings_at_once-zero.ensures.zero.long
 
-pub opened-requires-clause-one : goal.opened-requires-clause-one
-opened-requires-clause-one g c = IfOk-at_ok _ c.in_ok-words.ensures.at1 c.openings_at_once-zero.ensures.one.long
+pub open_words-requires-clause-one : goal.open_words-requires-clause-one
+open_words-requires-clause-one g c = IfOk-at_ok _ c.in_ok-words.ensures.at1 c.openings_at_once-zero.ensures.one.long
 
-pub opened-requires-clause-two : goal.opened-requires-clause-two
-opened-requires-clause-two g c = IfOk-at_ok _ c.in_ok-words.ensures.at2 c.openings_at_once-zero.ensures.two.long
+pub open_words-requires-clause-two : goal.open_words-requires-clause-two
+open_words-requires-clause-two g c = IfOk-at_ok _ c.in_ok-words.ensures.at2 c.openings_at_once-zero.ensures.two.long
 
 pub returns-in_err-total-clause-messages : goal.returns-in_err-total-clause-messages
 returns-in_err-total-clause-messages g c =
