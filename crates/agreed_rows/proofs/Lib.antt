@@ -1,4 +1,5 @@
 pub mod Answering
 pub mod Elements
+pub mod Lending
 pub mod OverRows
 pub mod Shares

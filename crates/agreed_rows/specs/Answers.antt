@@ -47,7 +47,7 @@ abbrev pub answered_by : ℕ → Result ℕ Altered → Result Answered AnswerFa
 answered_by n (Ok total) = Ok (record { rows = n; total = total })
 answered_by n (Err pair) = Err (faults.Altered pair.total pair.weighted)
 
--- the messages that were carried: those of the whole query, which open a pair that the check accepts or refuses; for want of memory
+-- the messages that were carried: those of the whole query, which open a pair that the check accepts or refuses; out of memory,
 -- the first of them
 abbrev pub Answers : Entries → Query → Seed → List Message → OpenedPair → Result Answered AnswerFault → Type 0
 Answers e query seed ms pair (Ok a) = Opens e query seed ms pair × (judged query seed pair ≡ Ok a.total) × (a.rows ≡ length e.all)
@@ -56,7 +56,7 @@ Answers e query seed ms pair (Err (faults.Altered total weighted)) =
     × (pair ≡ record { total = total; weighted = weighted })
 Answers e query seed ms pair (Err faults.Memory) = IsPart (setup_over e query seed) ms
 
--- an answer is the plain one, and there is no other fault than want of memory
+-- an answer is the plain one, and there is no other fault than out of memory
 abbrev pub IsPlainAnswer : Entries → Query → Result Answered AnswerFault → Type 0
 IsPlainAnswer e query (Ok a) = a.total ≡ plain_total e query
 IsPlainAnswer e query (Err (faults.Altered total weighted)) = ⊥

@@ -1,11 +1,15 @@
 //! Rows that were agreed on.
-ghost use Rattle.std.specs.Prelude.{◌≡◌, ◌≤◌, length, min};
+ghost use Rattle.std.specs.Prelude.{◌≡◌, ◌<◌, ◌≤◌, IfOk, length, min};
 ghost use Rattle.agreed_rows.specs.Servers.{KeepsFirst};
+ghost use Rattle.agreed_rows.specs.Shelves.{HoldEntries};
 ghost use Rattle.agreed_rows.specs.Agreed.{Sound, first_rows};
 
 use crate::agreement::Agreement;
 use prefix_log::Snapshot;
+use ring128::Memory;
 use scan_chunks::Shelf;
+use server_rounds::Servers;
+use std::alloc::Global;
 use std::marker::Model;
 use std::snapshot;
 use table_schema::Widths;
@@ -63,5 +67,15 @@ impl Agreed {
         ensures sound { Sound self.now }
     {
         self.rows.rows()
+    }
+
+    /// The rows as shelves of the three servers, at each as many as there are workers: column by column they hold what each server
+    /// has of the rows. The only error is out of memory.
+    pub fn shelves(&self, alloc: Global, workers: u8) -> Result<Servers<Snapshot>, Memory>
+        requires { 0 < workers }
+        ensures shelves { IfOk result (HoldEntries ⟦<Snapshot as Shelf>⟧.held self.now) }
+        ensures sound { Sound self.now }
+    {
+        self.rows.shelves(alloc, workers)
     }
 }

@@ -46,12 +46,15 @@ impl Agreement {
         self.zero.rows()
     }
 
-    // The rows as shelves, at each server as many as there are workers. The only error is want of memory.
-    fn shelves(&self, alloc: Global, workers: u8) -> Result<Servers<Snapshot>, Memory>
+    // The rows as shelves, at each server as many as there are workers. The only error is out of memory.
+    pub(crate) fn shelves(&self, alloc: Global, workers: u8) -> Result<Servers<Snapshot>, Memory>
         requires { 0 < workers }
-        ensures zero { IfOk result (λ s. ArePartsOf (⟦<Snapshot as Shelf>⟧.held self.now.zero) (map ⟦<Snapshot as Shelf>⟧.held s.zero.items)) }
-        ensures one { IfOk result (λ s. ArePartsOf (⟦<Snapshot as Shelf>⟧.held self.now.one) (map ⟦<Snapshot as Shelf>⟧.held s.one.items)) }
-        ensures two { IfOk result (λ s. ArePartsOf (⟦<Snapshot as Shelf>⟧.held self.now.two) (map ⟦<Snapshot as Shelf>⟧.held s.two.items)) }
+        ensures zero { IfOk result (λ s. ArePartsOf (⟦<Snapshot as Shelf>⟧.held self.now.zero)
+            (map ⟦<Snapshot as Shelf>⟧.held s.zero.items)) }
+        ensures one { IfOk result (λ s. ArePartsOf (⟦<Snapshot as Shelf>⟧.held self.now.one)
+            (map ⟦<Snapshot as Shelf>⟧.held s.one.items)) }
+        ensures two { IfOk result (λ s. ArePartsOf (⟦<Snapshot as Shelf>⟧.held self.now.two)
+            (map ⟦<Snapshot as Shelf>⟧.held s.two.items)) }
     {
         Ok(Servers {
             zero: self.zero.parts(alloc, workers)?,
@@ -60,7 +63,7 @@ impl Agreement {
         })
     }
 
-    // Both runs of a query over the rows, each server's shared among so many workers. The only error is want of memory; the
+    // Both runs of a query over the rows, each server's shared among `workers` threads. The only error is out of memory; the
     // first messages of the query may then have been carried.
     pub(crate) fn open_pair<R: Threads + Sync, W: Wire>(
         &self,
@@ -75,11 +78,15 @@ impl Agreement {
         requires zero { let held = ⟦<Snapshot as Shelf>⟧.held in AreRowsOf keys.now.widths (held self.now.zero).rows (held self.now.zero) }
         requires one { let held = ⟦<Snapshot as Shelf>⟧.held in AreRowsOf keys.now.widths (held self.now.zero).rows (held self.now.one) }
         requires two { let held = ⟦<Snapshot as Shelf>⟧.held in AreRowsOf keys.now.widths (held self.now.zero).rows (held self.now.two) }
-        ensures columns { HasColumns (record { rows = (⟦<Snapshot as Shelf>⟧.held self.now.zero).rows; widths = keys.now.widths; shape = shaped keys.now.query }) }
+        ensures columns { HasColumns (record {
+          rows = (⟦<Snapshot as Shelf>⟧.held self.now.zero).rows;
+          widths = keys.now.widths;
+          shape = shaped keys.now.query;
+        }) }
         ensures messages { let held = ⟦<Snapshot as Shelf>⟧.held in
             let pieces = by_server (held self.now.zero).pieces (held self.now.one).pieces (held self.now.two).pieces in
             let setup = setup_for keys.now.query keys.now.widths keys.now.seed (held self.now.zero).rows pieces in
-            (ms : List Message) × Went W.told W.alterations W.passes wire.old ms wire.new
+            (ms : List Message) × Went W.sight wire.old ms wire.new
             × IsPart setup ms
             × IfOk result (λ pair. IsTranscript setup ms × (pair.total ≡ opened_of setup ms 0) × (pair.weighted ≡ opened_of setup ms 1)) }
     {

@@ -1,12 +1,12 @@
 //! A query over rows that were agreed on.
 ghost use Rattle.std.specs.Prelude.{◌≡◌, ◌<◌, List};
-ghost use Rattle.fault_count.specs.Causes.{Rose};
 ghost use Rattle.query_plan.specs.Query.{Suits};
 ghost use Rattle.server_rounds.specs.declared.opened.OpenedPair.{OpenedPair};
 ghost use Rattle.weighted_check.specs.Check.{checked};
 ghost use Rattle.wire_line.specs.Messages.{IsHonest, Went};
 ghost use Rattle.wire_line.specs.declared.message.Message.{Message};
 ghost use Rattle.agreed_rows.specs.Answers.{Answers, IsPlainAnswer, answered_by};
+ghost use Rattle.wire_line.specs.Sights.{HasAltered};
 
 use crate::agreed::Agreed;
 use prg_chacha::Seed;
@@ -45,10 +45,10 @@ pub fn answer<R: Threads + Sync, W: Wire>(
 ) -> Result<Answered, AnswerFault>
     requires suits { Suits agreed.now.widths.columns agreed.now.widths.bits query.now }
     requires some { 0 < workers }
-    ensures answers { (ms : List Message) × (pair : OpenedPair) × Went W.told W.alterations W.passes wire.old ms wire.new
+    ensures answers { (ms : List Message) × (pair : OpenedPair) × Went W.sight wire.old ms wire.new
         × Answers agreed.now query.now seed.now ms pair result
         × (IsHonest ms → IsPlainAnswer agreed.now query.now result) }
-    ensures plain { ¬ Rose (W.alterations wire.old) (W.alterations wire.new) → IsPlainAnswer agreed.now query.now result }
+    ensures plain { ¬ HasAltered W.sight wire.old wire.new → IsPlainAnswer agreed.now query.now result }
 {
     let Ok(keys) = make_keys(alloc, query, &agreed.widths, seed) else {
         return Err(AnswerFault::Memory);

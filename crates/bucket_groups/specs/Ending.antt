@@ -49,7 +49,7 @@ bucket_ending z column = record {
   last = bucket_words z column;
 }
 
--- a query with its seed over so many rows, of which the servers hold these pieces, by the buckets of a column
+-- a query with its seed over `rows` rows, of which the servers hold these pieces, by the buckets of a column
 abbrev pub groups_for : Query → ℕ → Widths → Seed → ℕ → (ℕ → Pieces) → Setup
 groups_for query column w seed rows pieces =
     let sizes : Sizes = record { rows = rows; widths = w; shape = shaped query } in record {

@@ -8,6 +8,6 @@ use Rattle.transcript.specs.Plain.{plain}
 abbrev pub is_in : ℕ → ℕ → Row → Bool
 is_in column b row = b == slice_index row.buckets column
 
--- for each bucket of the column, one of so many, the plain answer over the rows with this bucket
+-- for each of the `width` buckets of the column, the plain answer over the rows with this bucket
 abbrev pub grouped : Query → ℕ → ℕ → List Row → List ℤ
 grouped query column width rows = listed width (λ b. plain query (filter (is_in column b) rows))

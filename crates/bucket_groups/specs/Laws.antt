@@ -17,15 +17,18 @@ use Rattle.bucket_groups.specs.Grouped.{grouped}
 abbrev pub GroupsOpen : Type 0
 GroupsOpen =
     (s : Setup) (query : Query) (weights : ℕ → ℕ → ℕ) (rows : List Row) (ms : List Message) (run column : ℕ) → run < 2
-    → column < s.sizes.widths.columns → Asks s query weights rows → s.ending ≡ bucket_ending s.sizes column → IsTranscript s ms → IsHonest ms
+    → column < s.sizes.widths.columns → Asks s query weights rows → s.ending ≡ bucket_ending s.sizes column → IsTranscript s ms
+    → IsHonest ms
     → opened_groups s column ms run
-    ≡ map (λ (answer : ℤ). times (key_from (weights run) query.count) (word_of answer)) (grouped query column (width_of s.sizes.widths column) rows)
+    ≡ map (λ (answer : ℤ). times (key_from (weights run) query.count) (word_of answer))
+    (grouped query column (width_of s.sizes.widths column) rows)
 
 -- where the weights of run 0 are 1 and nothing was altered, the totals are the plain answers, and the weighted totals the key times them
 abbrev pub GroupPairsOpen : Type 0
 GroupPairsOpen =
     (s : Setup) (query : Query) (weights : ℕ → ℕ → ℕ) (rows : List Row) (ms : List Message) (column : ℕ) → ((j : ℕ) → weights 0 j ≡ 1)
-    → column < s.sizes.widths.columns → Asks s query weights rows → s.ending ≡ bucket_ending s.sizes column → IsTranscript s ms → IsHonest ms
+    → column < s.sizes.widths.columns → Asks s query weights rows → s.ending ≡ bucket_ending s.sizes column → IsTranscript s ms
+    → IsHonest ms
     → let answers = grouped query column (width_of s.sizes.widths column) rows in
     (opened_groups s column ms 0 ≡ map word_of answers)
     × (opened_groups s column ms 1 ≡ map (λ (answer : ℤ). times (key_from (weights 1) query.count) (word_of answer)) answers)

@@ -36,7 +36,8 @@ pub record AreOpened (ms : List Message) (totals : List ℕ) : Type 0 where
   pub sum : totals ≡ sums3 (message_at ms 0).received (message_at ms 1).received (message_at ms 2).received
 
 -- these are all messages of a run by buckets, and the client opened these numbers
-pub record AreGroups (z : Sizes) (column : ℕ) (pieces : ℕ → Pieces) (run : ℕ) (views : ℕ → View) (ms : List Message) (totals : List ℕ) : Type 0 where
+pub record AreGroups (z : Sizes) (column : ℕ) (pieces : ℕ → Pieces) (run : ℕ) (views : ℕ → View)
+    (ms : List Message) (totals : List ℕ) : Type 0 where
   pub some : 0 < count_of z
   pub full : length ms ≡ 6 * count_of z + 3 * further_steps z.shape.aggregate
   pub long : length totals ≡ width_of z.widths column

@@ -53,7 +53,7 @@ fn answer(total: u128, weighted: u128, key: u128) -> GroupAnswer
     }
 }
 
-/// For each bucket what `check` answers for its own pair. The only error is want of memory.
+/// For each bucket what `check` answers for its own pair. The only error is out of memory.
 pub fn check_groups(alloc: Global, totals: &GroupTotals, key: u128) -> Result<GroupAnswers, Memory>
     requires { length totals.now.total ≡ length totals.now.weighted }
     ensures answers { IfOk result (λ a. a ≡ answers_of totals.now.total totals.now.weighted key) }

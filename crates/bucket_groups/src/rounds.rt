@@ -39,7 +39,7 @@ fn value_round<S: Shelf, W: Wire>(
     ensures messages { let pieces = by_server (pieces_of (map S.held shelves.old.zero.items))
         (pieces_of (map S.held shelves.old.one.items)) (pieces_of (map S.held shelves.old.two.items)) in
         let views = views_of ready.now.keys in
-        (ms : List Message) × Went W.told W.alterations W.passes wire.old ms wire.new
+        (ms : List Message) × Went W.sight wire.old ms wire.new
         × IsGroup Around (values_of ready.now.plan run views pieces chain.now) ms
         × IfOk result (λ held. AreReshared held ms) }
 {
@@ -72,7 +72,7 @@ pub(crate) fn before_buckets<S: Shelf, W: Wire>(
     ensures messages { let pieces = by_server (pieces_of (map S.held shelves.old.zero.items))
         (pieces_of (map S.held shelves.old.one.items)) (pieces_of (map S.held shelves.old.two.items)) in
         let views = views_of ready.now.keys in
-        (ms : List Message) × Went W.told W.alterations W.passes wire.old ms wire.new
+        (ms : List Message) × Went W.sight wire.old ms wire.new
         × IsValuePart ready.now.plan.shape.aggregate (values_of ready.now.plan run views pieces chain) ms
         × IfOk result (λ held. AreValued ready.now.plan.shape.aggregate chain ms held) }
 {
@@ -89,7 +89,7 @@ pub(crate) fn before_buckets<S: Shelf, W: Wire>(
 fn opened<W: Wire>(wire: &mut W, words: Trio) -> Result<Words, Memory>
     requires one { length words.one ≡ length words.zero }
     requires two { length words.two ≡ length words.zero }
-    ensures { (ms : List Message) × Went W.told W.alterations W.passes wire.old ms wire.new
+    ensures { (ms : List Message) × Went W.sight wire.old ms wire.new
         × IsGroup ToClient (by_server words.zero words.one words.two) ms
         × IfOk result (λ totals. AreOpened ms totals) }
 {
@@ -122,7 +122,7 @@ pub(crate) fn bucket_round<S: Shelf, W: Wire>(
     ensures messages { let pieces = by_server (pieces_of (map S.held shelves.old.zero.items))
         (pieces_of (map S.held shelves.old.one.items)) (pieces_of (map S.held shelves.old.two.items)) in
         let views = views_of ready.now.keys in
-        (ms : List Message) × Went W.told W.alterations W.passes wire.old ms wire.new
+        (ms : List Message) × Went W.sight wire.old ms wire.new
         × IsGroup ToClient (buckets_of ready.now.plan column run views pieces held.now) ms
         × IfOk result (λ totals. AreOpened ms totals) }
 {

@@ -47,7 +47,7 @@ fn run_groups<R: Threads + Sync, S: Shelf + Send, W: Wire>(
     ensures messages { let pieces = by_server (pieces_of (map S.held shelves.old.zero.items))
         (pieces_of (map S.held shelves.old.one.items)) (pieces_of (map S.held shelves.old.two.items)) in
         let views = views_of ready.now.keys in
-        (ms : List Message) × Went W.told W.alterations W.passes wire.old ms wire.new
+        (ms : List Message) × Went W.sight wire.old ms wire.new
         × IsRunPart ready.now.plan (bucket_ending ready.now.plan column) pieces run views ms
         × IfOk result (λ totals. AreGroups ready.now.plan column pieces run views ms totals) }
 {
@@ -60,7 +60,7 @@ fn run_groups<R: Threads + Sync, S: Shelf + Send, W: Wire>(
 
 /// Both runs of a query by the buckets of a column, over the rows at three servers, through a wire: run 0 opens the totals, and run
 /// 1, with the weights of the keys, the weighted totals. The shelves have the columns that the keys were made for, and the same number
-/// of rows at each server, at most 65,536. The only error is want of memory; the messages carried by then are the first ones of
+/// of rows at each server, at most 65,536. The only error is out of memory; the messages carried by then are the first ones of
 /// the query.
 pub fn group_runs<R: Threads + Sync, S: Shelf + Send, W: Wire>(
     rt: &R,
@@ -81,9 +81,10 @@ pub fn group_runs<R: Threads + Sync, S: Shelf + Send, W: Wire>(
     ensures messages { let pieces = by_server (pieces_of (map S.held shelves.old.zero.items))
         (pieces_of (map S.held shelves.old.one.items)) (pieces_of (map S.held shelves.old.two.items)) in
         let setup = groups_for keys.now.query column keys.now.widths keys.now.seed (rows_of (map S.held shelves.old.zero.items)) pieces in
-        (ms : List Message) × Went W.told W.alterations W.passes wire.old ms wire.new
+        (ms : List Message) × Went W.sight wire.old ms wire.new
         × IsPart setup ms
-        × IfOk result (λ t. IsTranscript setup ms × (t.total ≡ opened_groups setup column ms 0) × (t.weighted ≡ opened_groups setup column ms 1)) }
+        × IfOk result (λ t. IsTranscript setup ms × (t.total ≡ opened_groups setup column ms 0)
+        × (t.weighted ≡ opened_groups setup column ms 1)) }
 {
     let rows = count_rows(shelves.zero.as_slice());
     let ready = Ready::send(alloc, keys, rows, wire)?;

@@ -28,7 +28,7 @@ fn add_row(to: &mut [u128], by: Pair, first: &[u128], second: &[u128])
 }
 
 /// For each bucket, the sum over the rows of the local products of their pairs with the pairs of their cells of the bucket. The
-/// cells are those of a column of this width, row after row. The only error is want of memory.
+/// cells are those of a column of this width, row after row. The only error is out of memory.
 pub(crate) fn bucket_sums(
     alloc: Global,
     held: &PairList,

@@ -12,7 +12,7 @@ level_words l = tree.level_words l.level ++ l.value ∷ []
 abbrev pub level_read : List ℕ → CompareLevel
 level_read ws = record { level = tree.level_read ws; value = slice_index ws 3 }
 
--- how many words the key of so many bits has
+-- how many words the key of `bits` bits has
 abbrev pub length_of : ℕ → ℕ
 length_of = tree.length_of 4
 
@@ -20,7 +20,7 @@ length_of = tree.length_of 4
 abbrev pub words_of_key : Key CompareLevel → List ℕ
 words_of_key = tree.key_words level_words
 
--- the key of so many bits that a list of words is
+-- the key of `bits` bits that a list of words is
 abbrev pub key_of_words : ℕ → List ℕ → Key CompareLevel
 key_of_words = tree.key_read level_read 4
 

@@ -14,9 +14,10 @@ use Rattle.compare_keys.specs.CompareWords.{length_of, words_of_key, key_of_word
 abbrev pub KeysAddUp : Type 0
 KeysAddUp =
     (bits a weight : ℕ) (r s : Seed) → a < 2 ^ bits → weight < 2 ^ 128
-    → IsKeyPair bits (value_of (compare_key Zero bits a weight r s) Zero) (value_of (compare_key One bits a weight r s) One) (at_most a weight)
+    → IsKeyPair bits (value_of (compare_key Zero bits a weight r s) Zero)
+    (value_of (compare_key One bits a weight r s) One) (at_most a weight)
 
--- a key of so many bits that its words give again
+-- a key of `bits` bits that its words give again
 pub record IsReadBack (bits : ℕ) (k : Key CompareLevel) : Type 0 where
   pub levels : length k.levels ≡ bits
   pub long : length (words_of_key k) ≡ length_of bits
@@ -24,4 +25,5 @@ pub record IsReadBack (bits : ℕ) (k : Key CompareLevel) : Type 0 where
 
 -- the words of a key give the key again
 abbrev pub WordsReadBack : Type 0
-WordsReadBack = (party : Party) (bits a weight : ℕ) (r s : Seed) → IsSeed r → IsSeed s → IsReadBack bits (compare_key party bits a weight r s)
+WordsReadBack = (party : Party) (bits a weight : ℕ) (r s : Seed) → IsSeed r → IsSeed s
+    → IsReadBack bits (compare_key party bits a weight r s)

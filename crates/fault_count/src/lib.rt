@@ -17,12 +17,12 @@
 //! ```
 #![tactic(auto)]
 
-ghost use Rattle.std.specs.Prelude.{◌≡◌, ◌+◌, ◌-◌, ◌^◌, min};
-ghost use Rattle.fault_count.specs.Causes.{Rose};
+ghost use Rattle.std.specs.Prelude.{◌≡◌};
+ghost use Rattle.fault_count.specs.Causes.{Rose, next};
 
 /// The count after one fault more. At 2^64 - 1 it stands still, and counts as risen all the same.
 pub fn raised(count: u64) -> u64
-    ensures value { result ≡ min (count + 1) (2 ^ 64 - 1) }
+    ensures value { result ≡ next count }
     ensures rose { Rose count result }
 {
     count.saturating_add(1)

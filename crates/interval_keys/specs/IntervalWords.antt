@@ -5,7 +5,7 @@ use Rattle.key_tree.specs.declared.fault.KeyFault.TheVariants.{Length, Bits, Mem
 use Rattle.compare_keys.specs.CompareWords as compares
 use Rattle.interval_keys.specs.Keys.{Key}
 
--- how many words the key of so many bits has
+-- how many words the key of `bits` bits has
 abbrev pub length_of : ℕ → ℕ
 length_of bits = 6 + 8 * bits
 
@@ -13,7 +13,7 @@ length_of bits = 6 + 8 * bits
 abbrev pub words_of_key : Key → List ℕ
 words_of_key k = compares.words_of_key k.upper ++ compares.words_of_key k.lower
 
--- the key of so many bits that a list of words is
+-- the key of `bits` bits that a list of words is
 abbrev pub key_of_words : ℕ → List ℕ → Key
 key_of_words bits ws = record {
   upper = compares.key_of_words bits (take (compares.length_of bits) ws);
@@ -27,7 +27,7 @@ controls bits ws i =
     (compares.controls (take (compares.length_of bits) ws) i)
     (compares.controls (drop (compares.length_of bits) ws) (i - bits))
 
--- a fault with its level counted after so many others
+-- a fault with its level counted after `levels` others
 abbrev pub later : ℕ → KeyFault → KeyFault
 later levels (Length had wanted) = Length had wanted
 later levels (Bits level) = Bits (levels + level)

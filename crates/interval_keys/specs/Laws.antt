@@ -13,10 +13,11 @@ use Rattle.interval_keys.specs.Keys.{Key}
 abbrev pub KeysAddUp : Type 0
 KeysAddUp =
     (bits low high weight : ℕ) (roots : List Seed) → low ≤ high → high < 2 ^ bits → weight < 2 ^ 128
-    → IsKeyPair bits (value_of (interval_key Zero bits low high weight roots) Zero) (value_of (interval_key One bits low high weight roots) One)
+    → IsKeyPair bits (value_of (interval_key Zero bits low high weight roots) Zero)
+    (value_of (interval_key One bits low high weight roots) One)
     (inside low high weight)
 
--- a key of so many bits that its words give again
+-- a key of `bits` bits that its words give again
 pub record IsReadBack (bits : ℕ) (k : Key) : Type 0 where
   pub levels : length k.upper.levels ≡ bits
   pub long : length (words_of_key k) ≡ length_of bits

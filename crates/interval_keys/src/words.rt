@@ -9,7 +9,7 @@ use key_tree::KeyFault;
 use ring128::{Memory, Words};
 use std::alloc::Global;
 
-/// How many words a key of so many bits has: 6 and 8 more a bit.
+/// How many words a key of `bits` bits has: 6 and 8 more a bit.
 pub fn length(bits: u8) -> u64
     ensures { result ≡ length_of bits }
 {
@@ -29,7 +29,7 @@ pub fn to_words(alloc: Global, key: &IntervalKey) -> Result<Words, Memory>
     Ok(Words::from_vec(words))
 }
 
-/// The key of so many bits that words of the right length are, whatever they are: of each control word its
+/// The key of `bits` bits that words of the right length are, whatever they are: of each control word its
 /// two lowest bits count.
 pub fn read_words(alloc: Global, bits: u8, words: &[u128]) -> Result<IntervalKey, Memory>
     requires few { bits ≤ 8 }
@@ -43,7 +43,7 @@ pub fn read_words(alloc: Global, bits: u8, words: &[u128]) -> Result<IntervalKey
     Ok(IntervalKey { upper, lower })
 }
 
-/// The key of so many bits that has these words. `Length` comes exactly where their number is not that of
+/// The key of `bits` bits that has these words. `Length` comes exactly where their number is not that of
 /// [`length`], then `Bits` exactly where a control word is above 3, with the first such level; the levels
 /// of the lower key are counted after those of the upper one. Every other list is a key, and
 /// [`to_words`] gives it again.
@@ -71,7 +71,7 @@ pub fn from_words(alloc: Global, bits: u8, words: &[u128]) -> Result<IntervalKey
     Ok(IntervalKey { upper, lower })
 }
 
-// A fault with its level counted after so many others.
+// A fault with its level counted after `levels` others.
 fn later(levels: u8, fault: KeyFault) -> KeyFault
     requires few { levels ≤ 8 }
     requires low { IsBelow 8 fault }

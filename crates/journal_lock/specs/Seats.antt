@@ -4,7 +4,8 @@ use Rattle.atomic_table.specs.Table.{Me}
 use Rattle.atomic_table.specs.Seated.{TableId}
 use Rattle.journal_lock.specs.declared.knows.Knows.{Knows}
 
--- which lock it is of, whether it has the value, the journal that it has seen, its loads of the count while it had the value, and its tries that failed
+-- which lock it is of, whether it has the value, the journal that it has seen, its loads of the count while it had the value, and its tries
+-- that failed
 pub record Seen : Type 0 where
   pub lock : TableId
   pub holds : Bool

@@ -1,4 +1,5 @@
--- What each step on the lock's words tells the seat that makes it: `m` is the seat before it, `m'` after it, and `found` the word that it found.
+-- What each step on the lock's words says to the seat that makes it: `m` is the seat before it, `m'` after it, and `found` the word that it
+-- found.
 use Rattle.std.specs.Prelude.{◌≡◌, ◌≢◌, ℕ, ◌+◌, true, false, List, [], ◌∷◌, length, Option, Some}
 use mathlib.Core.List.{IsPrefix}
 use Rattle.atomic_table.specs.Table.{Me, Step}
@@ -19,7 +20,7 @@ module _ {S : Type 0} where
   abbrev pub takes : (S → List ℕ) → (S → Type 0) → Step (Option S) → Me (Option S) Knows → ℕ → Me (Option S) Knows → Type 0
   takes journal fits st m found m' = (found ≡ 0 → Took journal fits m m') × (found ≢ 0 → m' ≡ m)
 
-  -- the same, and a try that failed is counted
+  -- the turn was free, and the seat has the value; or it was not, and the seat counts a try that failed
   abbrev pub tries : (S → List ℕ) → (S → Type 0) → Step (Option S) → Me (Option S) Knows → ℕ → Me (Option S) Knows → Type 0
   tries journal fits st m found m' = (found ≡ 0 → Took journal fits m m') × (found ≢ 0 → m' ≡ (record m.0 { tries = m.0.tries + 1 }, m.1))
 

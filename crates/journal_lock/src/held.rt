@@ -40,7 +40,8 @@ impl<S: Journaled> Held<S> {
 
     /// The value, to change.
     pub fn value_mut(&mut self) -> &mut S
-        ensures* writes_back { sem 𝓛 (Lends (the_row S.row S.Tag.row S.Journaled) S.row self.entry result (λ w. record self.old { value = w })) }
+        ensures* writes_back { sem 𝓛 (Lends (the_row S.row S.Tag.row S.Journaled) S.row self.entry result
+            (λ w. record self.old { value = w })) }
         ensures value { result.now ≡ self.old.value }
     {
         &mut self.value

@@ -1,7 +1,7 @@
 //! A lock round a value that keeps a journal, whose atomic word counts the journal's entries. Whoever takes the value
 //! sees its whole journal, which begins with all that the seat had seen, and gives it back with one entry more at most.
 //!
-//! It never hands the value to two seats, never loses an entry, and never lets a value go that isn't given back. It says
+//! It never hands the value to two seats, never loses an entry, and never lets a value go that is not given back. It says
 //! nothing of time: that a `take` returns, or in which order seats come to the value.
 //!
 //! ```text

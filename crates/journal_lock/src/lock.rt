@@ -36,7 +36,7 @@ impl<S: Journaled> Model for JournalLock<S> {
 }
 
 impl<S: Journaled> JournalLock<S> {
-    /// A lock round the value, and its first seat, which has seen the value's journal. Want of memory drops the value.
+    /// A lock round the value, and its first seat, which has seen the value's journal. Out of memory, the value is dropped.
     pub fn new(alloc: Global, value: S) -> Result<(JournalLock<S>, Seat<S>), Memory>
     where
         S: Drop,
@@ -88,12 +88,14 @@ impl<S: Journaled> JournalLock<S> {
     // The value out of the slot, and the load of the count.
     fn held(&self, token: &mut Token<S>) -> Held<S>
         requires token { (token.old.table_id ≡ self.now.id) × (token.old.me.0.holds ≡ true) }
-        requires out { (value : S) × (token.old.me.1 ≡ (0, Some value) ∷ []) × (S.journal value ≡ token.old.me.0.held) × (S.tag value ≡ self.now.tag) }
+        requires out { (value : S) × (token.old.me.1 ≡ (0, Some value) ∷ [])
+            × (S.journal value ≡ token.old.me.0.held) × (S.tag value ≡ self.now.tag) }
         ensures tag { S.tag result.value ≡ self.now.tag }
         ensures journal { S.journal result.value ≡ token.old.me.0.held }
         ensures taken { (result.lock ≡ self.now.id) × (result.journal ≡ token.old.me.0.held) }
         ensures table { token.new.table_id ≡ token.old.table_id }
-        ensures me { token.new.me ≡ (record token.old.me.0 { seen = token.old.me.0.held; looks = token.old.me.0.looks + 1 }, (0, None) ∷ []) }
+        ensures me { token.new.me
+            ≡ (record token.old.me.0 { seen = token.old.me.0.held; looks = token.old.me.0.looks + 1 }, (0, None) ∷ []) }
     {
         let desk = &self.desk.shared;
         let value = steps::take_out(desk, token);

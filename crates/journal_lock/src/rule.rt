@@ -1,4 +1,4 @@
-// The rule of the lock's words and slot, and what each step on them tells.
+// The rule of the lock's words and slot, and what each step on them says.
 use crate::journaled::Journaled;
 use crate::knows::Knows;
 use atomic_table::{Join, Play, Split, Table, TableRule};
@@ -41,7 +41,7 @@ impl<S: Journaled, N: Fitting<S>> Play<Option<S>, Knows> for Takes<N> {
     ghost then = { takes S.journal N.fits };
 }
 
-/// The same exchange, by a seat that counts its failures.
+/// An exchange that takes the turn where it is free, by a seat that counts its failures.
 pub struct Tries<N> {
     of: PhantomData<N>,
 }

@@ -23,7 +23,8 @@ pub(crate) fn take_once<S: Journaled, N: Fitting<S>>(desk: &Words<S>, seat: &mut
     requires fits { (x : S) → S.tag x ≡ S.tag desk.now.key.value → N.fits x }
     requires idle { (seat.old.me.0.holds ≡ false) × (seat.old.me.1 ≡ []) }
     ensures same { seat.new.table_id ≡ seat.old.table_id }
-    ensures took { MatchBool result (Took S.journal N.fits seat.old.me seat.new.me) (seat.new.me ≡ seat.old.me) }
+    ensures took { MatchBool result (Took S.journal N.fits seat.old.me seat.new.me)
+        (seat.new.me ≡ seat.old.me) }
 {
     desk.compare_exchange::<Takes<N>>(seat, 0, 0, 1) == 0
 }
@@ -34,12 +35,13 @@ pub(crate) fn try_once<S: Journaled, N: Fitting<S>>(desk: &Words<S>, seat: &mut 
     requires fits { (x : S) → S.tag x ≡ S.tag desk.now.key.value → N.fits x }
     requires idle { (seat.old.me.0.holds ≡ false) × (seat.old.me.1 ≡ []) }
     ensures same { seat.new.table_id ≡ seat.old.table_id }
-    ensures took { MatchBool result (Took S.journal N.fits seat.old.me seat.new.me) (seat.new.me ≡ (record seat.old.me.0 { tries = seat.old.me.0.tries + 1 }, seat.old.me.1)) }
+    ensures took { MatchBool result (Took S.journal N.fits seat.old.me seat.new.me)
+        (seat.new.me ≡ (record seat.old.me.0 { tries = seat.old.me.0.tries + 1 }, seat.old.me.1)) }
 {
     desk.compare_exchange::<Tries<N>>(seat, 0, 0, 1) == 0
 }
 
-// Exchanges until the turn was free, and sleeps while it isn't.
+// Exchanges until the turn was free, and sleeps while it is not.
 pub(crate) fn take_waiting<S: Journaled, N: Fitting<S>, R: Wait>(
     rt: &R,
     desk: &Words<S>,
@@ -122,7 +124,8 @@ pub(crate) fn settle<S: Journaled>(desk: &Words<S>, seat: &mut Token<S>, value: 
 pub(crate) fn release<S: Journaled>(desk: &Words<S>, seat: &mut Token<S>)
     requires desk { (desk.now.table_id.words ≡ 2) × (desk.now.table_id.slots ≡ 1) × (seat.old.table_id ≡ desk.now.table_id) }
     requires holds { seat.old.me.0.holds ≡ true }
-    requires back { (value : S) × (seat.old.me.1 ≡ (0, Some value) ∷ []) × (S.journal value ≡ seat.old.me.0.held) × (S.tag value ≡ S.tag desk.now.key.value) }
+    requires back { (value : S) × (seat.old.me.1 ≡ (0, Some value) ∷ []) × (S.journal value ≡ seat.old.me.0.held)
+        × (S.tag value ≡ S.tag desk.now.key.value) }
     ensures same { seat.new.table_id ≡ seat.old.table_id }
     ensures gave { seat.new.me ≡ (record seat.old.me.0 { holds = false; held = [] }, []) }
 {
@@ -139,7 +142,7 @@ pub(crate) fn again<S: Journaled>(desk: &Words<S>, seat: &mut Token<S>) -> Token
     desk.split_seat::<Again>(seat)
 }
 
-// A join, and the load of the count that tells what it learned.
+// A join, and the load of the count that says what it learned.
 pub(crate) fn join<S: Journaled>(desk: &Words<S>, seat: &mut Token<S>, other: Token<S>)
     requires desk { (desk.now.table_id.words ≡ 2) × (seat.old.table_id ≡ desk.now.table_id) × (other.table_id ≡ desk.now.table_id) }
     requires idle { (seat.old.me.0.holds ≡ false) × (other.me.0.holds ≡ false) × (other.me.1 ≡ []) }

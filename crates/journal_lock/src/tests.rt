@@ -29,7 +29,8 @@ impl Journaled for Notebook {
 impl Notebook {
     fn write(&mut self, line: u64) -> Result<(), AllocError>
         ensures owner { self.new.owner ≡ self.old.owner }
-        ensures lines { MatchResult result (λ _. self.new.lines.items ≡ self.old.lines.items ++ line ∷ []) (λ _. self.new.lines.items ≡ self.old.lines.items) }
+        ensures lines { MatchResult result (λ _. self.new.lines.items ≡ self.old.lines.items ++ line ∷ [])
+            (λ _. self.new.lines.items ≡ self.old.lines.items) }
     {
         self.lines.push(line)?;
         Ok(())

@@ -24,7 +24,7 @@ level_read ws = record {
   right = slice_index ws 2 / 2 % 2 == 1;
 }
 
--- how many words a key of so many bits has, of which each level has `width`
+-- how many words a key of `bits` bits has, of which each level has `width`
 abbrev pub length_of : ℕ → ℕ → ℕ
 length_of width bits = 3 + width * bits
 
@@ -40,7 +40,7 @@ words_at width ws i = take width (drop (2 + width * i) ws)
 abbrev pub levels_read : {L : Type 0} → (List ℕ → L) → ℕ → List ℕ → ℕ → List L
 levels_read read width ws n = listed n (λ i. read (words_at width ws i))
 
--- the key of so many bits that a list of words is
+-- the key of `bits` bits that a list of words is
 abbrev pub key_read : {L : Type 0} → (List ℕ → L) → ℕ → ℕ → List ℕ → Key L
 key_read read width bits ws = record {
   root = from_halves_of (slice_index ws 0) (slice_index ws 1);

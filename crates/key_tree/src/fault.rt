@@ -9,7 +9,7 @@ pub enum KeyFault {
     Length { had: u64, wanted: u64 },
     /// The control word of this level, counted from 0, is the first that is above 3.
     Bits { level: u8 },
-    /// Want of memory.
+    /// Out of memory.
     Memory,
 }
 

@@ -10,7 +10,7 @@ use prg_chacha::Seed;
 use ring128::{Memory, Words};
 use std::alloc::Global;
 
-/// How many words a key of so many bits has: two for the root, those of each level, and the last word.
+/// How many words a key of `bits` bits has: two for the root, those of each level, and the last word.
 pub fn length<L: KeyLevel>(bits: u8) -> u64
     ensures { result ≡ length_of L.WIDTH bits }
 {
@@ -34,7 +34,7 @@ pub fn to_words<L: KeyLevel>(alloc: Global, key: &TreeKey<L>) -> Result<Words, M
     Ok(Words::from_vec(words))
 }
 
-/// The key of so many bits that words of the right length are. Of each control word its two lowest bits
+/// The key of `bits` bits that words of the right length are. Of each control word its two lowest bits
 /// count, and where none is above 3 the key has these words.
 pub fn read_words<L: KeyLevel>(
     alloc: Global,
@@ -45,7 +45,8 @@ pub fn read_words<L: KeyLevel>(
     requires long { length words.now ≡ length_of L.WIDTH bits }
     ensures key { IfOk result (λ k. k ≡ key_read L.read L.WIDTH bits words.now) }
     ensures bits { IfOk result (λ k. length k.levels ≡ bits) }
-    ensures undone { IfOk result (λ k. HasNoFault (length words.now) (length_of L.WIDTH bits) bits (control_at L.WIDTH words.now) → key_words L.words k ≡ words.now) }
+    ensures undone { IfOk result (λ k. HasNoFault (length words.now) (length_of L.WIDTH bits) bits (control_at L.WIDTH words.now)
+        → key_words L.words k ≡ words.now) }
 {
     let mut levels = Vec::with_capacity(alloc, bits as usize)?;
     for i in 0..bits {
@@ -77,7 +78,7 @@ fn check_words<L: KeyLevel>(bits: u8, words: &[u128]) -> Result<(), KeyFault>
     Ok(())
 }
 
-/// The key of so many bits that has these words. Every list of the right length whose control words are
+/// The key of `bits` bits that has these words. Every list of the right length whose control words are
 /// at most 3 is one.
 pub fn from_words<L: KeyLevel>(
     alloc: Global,

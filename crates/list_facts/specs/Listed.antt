@@ -2,6 +2,6 @@
 use Rattle.std.specs.Prelude.{ℕ, List, map}
 use Rattle.std.specs.List.{range_with_len}
 
--- the list f 0, f 1, .. of so many elements
+-- the list f 0, f 1, .. of `n` elements
 abbrev pub listed : {A : Type 0} → ℕ → (ℕ → A) → List A
 listed n f = map f (range_with_len 0 n)

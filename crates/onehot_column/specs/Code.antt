@@ -11,7 +11,7 @@ abbrev pub word_of : ℤ → ℕ
 word_of (pos n) = n % 2 ^ 128
 word_of (negsuc n) = negative (n + 1)
 
--- so many numbers, 1 at a place and 0 elsewhere
+-- `size` numbers, 1 at a place and 0 elsewhere
 abbrev pub one_hot : ℕ → ℕ → List ℕ
 one_hot size place = listed size (λ x. if x == place then 1 else 0)
 

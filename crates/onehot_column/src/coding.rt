@@ -7,7 +7,7 @@ use std::alloc::Global;
 use table_schema::{Row, Widths};
 
 /// The code of a row: for each column in order 2^bits numbers, 1 at the bucket and 0 elsewhere, and then the
-/// value modulo 2^128. The only error is want of memory.
+/// value modulo 2^128. The only error is out of memory.
 pub fn code(alloc: Global, widths: &Widths, row: &Row) -> Result<Words, Memory>
     requires { Holds widths.now row.now }
     ensures { IfOk result (λ w. w ≡ code_of widths.now row.now) }
@@ -20,7 +20,7 @@ pub fn code(alloc: Global, widths: &Widths, row: &Row) -> Result<Words, Memory>
     Ok(Words::from_vec(cells))
 }
 
-// Appends so many numbers, 1 at a place and 0 elsewhere.
+// Appends `size` numbers, 1 at a place and 0 elsewhere.
 fn push_one_hot(cells: &mut Vec<u128>, size: usize, place: usize)
     requires { vec_len cells.old + size ≤ vec_capacity cells.old }
     ensures items { cells.new.items ≡ cells.old.items ++ one_hot size place }

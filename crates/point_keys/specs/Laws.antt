@@ -16,7 +16,7 @@ KeysAddUp =
     (bits a weight : ℕ) (r s : Seed) → a < 2 ^ bits → weight < 2 ^ 128
     → IsKeyPair bits (value_of (point_key Zero bits a weight r s) Zero) (value_of (point_key One bits a weight r s) One) (point_at a weight)
 
--- a key of so many bits that its words give again
+-- a key of `bits` bits that its words give again
 pub record IsReadBack (bits : ℕ) (k : Key Level) : Type 0 where
   pub levels : length k.levels ≡ bits
   pub long : length (words_of_key k) ≡ length_of bits

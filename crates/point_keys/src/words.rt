@@ -9,7 +9,7 @@ use key_tree::KeyFault;
 use ring128::{Memory, Words};
 use std::alloc::Global;
 
-/// How many words a key of so many bits has: 3 and 3 more a bit.
+/// How many words a key of `bits` bits has: 3 and 3 more a bit.
 pub fn length(bits: u8) -> u64
     ensures { result ≡ length_of bits }
 {
@@ -26,7 +26,7 @@ pub fn to_words(alloc: Global, key: &PointKey) -> Result<Words, Memory>
     key_tree::to_words(alloc, key)
 }
 
-/// The key of so many bits that words of the right length are, whatever they are: of each control word its
+/// The key of `bits` bits that words of the right length are, whatever they are: of each control word its
 /// two lowest bits count.
 pub fn read_words(alloc: Global, bits: u8, words: &[u128]) -> Result<PointKey, Memory>
     requires few { bits ≤ 8 }
@@ -37,7 +37,7 @@ pub fn read_words(alloc: Global, bits: u8, words: &[u128]) -> Result<PointKey, M
     key_tree::read_words(alloc, bits, words)
 }
 
-/// The key of so many bits that has these words. `Length` comes exactly where their number is not that of
+/// The key of `bits` bits that has these words. `Length` comes exactly where their number is not that of
 /// [`length`], then `Bits` exactly where a control word is above 3, with the first such level. Every
 /// other list is a key, and [`to_words`] gives it again.
 pub fn from_words(alloc: Global, bits: u8, words: &[u128]) -> Result<PointKey, KeyFault>

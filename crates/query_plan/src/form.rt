@@ -7,7 +7,8 @@ use text_reading::{cut, number};
 
 // Two numbers of an interval: what stands before its first point, and what stands after it.
 fn interval<'a>(name: &'a [u8], low: &[u8], rest: &[u8]) -> Option<(&'a [u8], Kind, u64, u64)>
-    ensures exact { option_map (λ s. record { name = s.0.now; kind = s.1; first = s.2; last = s.3 }) result ≡ up_to name.now low.now rest.now }
+    ensures exact { option_map (λ s. record { name = s.0.now; kind = s.1; first = s.2; last = s.3 }) result
+        ≡ up_to name.now low.now rest.now }
     ensures kind { IfSome result (λ s. s.1 ≡ Interval) }
 {
     match rest {

@@ -49,7 +49,7 @@ impl KeyPair {
     }
 }
 
-/// How many words the key of a predicate of this kind has, over a column of so many bits.
+/// How many words the key of a predicate of this kind has, over a column of `bits` bits.
 pub(crate) fn key_length(kind: Kind, bits: u8) -> u64
     ensures { result ≡ length_of kind bits }
 {

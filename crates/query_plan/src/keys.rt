@@ -45,7 +45,7 @@ impl Model for Keys {
 
 /// Makes the keys of a query that suits the widths, from the query's seed. What the three servers read from their
 /// messages are keys of this query, with weight 1 in run 0 and with the weights of the seed in run 1. The only error
-/// is want of memory.
+/// is out of memory.
 pub fn make_keys(alloc: Global, query: &Query, widths: &Widths, seed: &Seed) -> Result<Keys, Memory>
     requires suits { Suits widths.now.columns widths.now.bits query.now }
     ensures made { IfOk result (λ k. k ≡ record { query = query.now; widths = widths.now; seed = seed.now }) }
@@ -97,7 +97,7 @@ impl Keys {
 
     /// The words of the key message to a server: its seed of parts of zero and the next server's, two words each, and
     /// then for run 0 and for run 1, for each predicate in order, the words of its key of party 0 for its own share and
-    /// those of its key of party 1 for the next server's share. The only error is want of memory.
+    /// those of its key of party 1 for the next server's share. The only error is out of memory.
     pub fn message(&self, alloc: Global, server: u8) -> Result<Words, Memory>
         requires { server < 3 }
         ensures words { IfOk result (λ w. w ≡ message_words self.now.query self.now.widths.bits self.now.seed server) }

@@ -15,7 +15,7 @@ use table_schema::{Part, Shape, Widths};
 pub enum MessageFault {
     /// The message has `had` words, and that of a query of this shape has `wanted`.
     Length { had: u64, wanted: u64 },
-    /// Want of memory.
+    /// Out of memory.
     Memory,
 }
 

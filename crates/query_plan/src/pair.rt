@@ -26,7 +26,7 @@ pub(crate) fn roots(seed: &Seed, run: u8, j: u8, share: u8) -> [Seed; 4]
     ]
 }
 
-/// The keys of party 0 and party 1 for a predicate over a column of so many bits.
+/// The keys of party 0 and party 1 for a predicate over a column of `bits` bits.
 pub(crate) fn generate(
     alloc: Global,
     predicate: &Predicate,

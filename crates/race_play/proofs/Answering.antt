@@ -15,7 +15,7 @@ use Rattle.report_lines.specs.declared.lines.Who.TheVariants as who
 use Rattle.server_rounds.specs.declared.opened.OpenedPair.{OpenedPair}
 use Rattle.table_schema.specs.declared.rows.Row.{Row}
 use Rattle.table_schema.specs.declared.widths.Widths.{Widths}
-use Rattle.wire_line.specs.Carried.{BothPass, NonePasses, went_both, went_none}
+use Rattle.wire_line.specs.Carried.{went_both, went_none}
 use Rattle.wire_line.specs.Messages.{IsHonest, Went}
 use Rattle.wire_line.specs.declared.message.Message.{Message}
 use Rattle.agreed_rows.specs.Agreed.{Entries}
@@ -27,6 +27,7 @@ use Rattle.waldo_table.specs.Tables.{Agrees, Grows, IsCovered, PassView}
 use Rattle.race_play.specs.Questions.{AreAnswers, Gave, IsAnswer, Question, Told, at_end, ends_of, first, in_round, messages_of, question_of, rounds_of}
 use Rattle.race_play.specs.Raced.{HasFirst}
 use Rattle.race_play.specs.Rounds.{Asks}
+use Rattle.wire_line.specs.Sights.{Sight, NonePasses, BothPass}
 
 -- ---- an answer stays one as the order grows
 
@@ -72,12 +73,12 @@ messages_snoc (u ∷ told) t = ap (λ (ms : List Message). u.messages ++ ms) (me
 -- ---- one question more
 
 -- what was answered so far through a pass and over a wire; whatever three servers agree on from here is no less than `high`
-pub record SoFar {S : Type 0} (told : S → Option (List Message)) (alterations : S → ℕ) (passes : S → List Message → S → Type 0)
+pub record SoFar {S : Type 0} (sight : Sight S)
     (w : Widths) (low : ℕ) (p : PassView) (xs : List Question) (said : List Line) (before now : S) : Type 0 where
   pub all : List Told
   pub high : ℕ
   pub answers : AreAnswers w p.sight.order low xs all said high
-  pub went : Went told alterations passes before (messages_of all) now
+  pub went : Went sight before (messages_of all) now
   pub least : (q : PassView) → Grows p q → Agrees w p q (rows_of w q) → high ≤ q.floor
 
 kept : (w : Widths) (p q : PassView) → Agrees w p q (rows_of w q) → p.floor ≤ q.floor
@@ -101,13 +102,13 @@ answer_of w p q who query seed ms pair line asks = record {
   honest = asks.honest;
 }
 
-module _ {S : Type 0} (told : S → Option (List Message)) (alterations : S → ℕ) (passes : S → List Message → S → Type 0) (none : NonePasses passes) (both : BothPass passes) (w : Widths) (low : ℕ) where
-  pub so_far_none : (p : PassView) (s : S) → ((q : PassView) → Grows p q → Agrees w p q (rows_of w q) → low ≤ q.floor) → SoFar told alterations passes w low p [] [] s s
-  so_far_none p s least = record { all = []; high = low; answers = omega arith; went = went_none told alterations passes s s refl refl (none s); least = least }
+module _ {S : Type 0} (sight : Sight S) (none : NonePasses sight) (both : BothPass sight) (w : Widths) (low : ℕ) where
+  pub so_far_none : (p : PassView) (s : S) → ((q : PassView) → Grows p q → Agrees w p q (rows_of w q) → low ≤ q.floor) → SoFar sight w low p [] [] s s
+  so_far_none p s least = record { all = []; high = low; answers = omega arith; went = went_none sight s s refl refl (none s); least = least }
 
   pub so_far_more : (p q : PassView) (xs : List Question) (said more : List Line) (s t u : S) (who : Who) (query : Query) (seed : Seed) (ms : List Message) (pair : OpenedPair) (line : Line)
-      → SoFar told alterations passes w low p xs said s t → Grows p q → Asks w p q who query seed ms pair line → Went told alterations passes t ms u → more ≡ said ++ line ∷ []
-      → SoFar told alterations passes w low q (xs ++ record { by = who; query = query; seed = seed } ∷ []) more s u
+      → SoFar sight w low p xs said s t → Grows p q → Asks w p q who query seed ms pair line → Went sight t ms u → more ≡ said ++ line ∷ []
+      → SoFar sight w low q (xs ++ record { by = who; query = query; seed = seed } ∷ []) more s u
   so_far_more p q xs said more s t u who query seed ms pair line h grows asks went is =
       let x : Question = record { by = who; query = query; seed = seed } in
       let now : Told = record { rows = q.floor; messages = ms; pair = pair } in record {
@@ -116,12 +117,12 @@ module _ {S : Type 0} (told : S → Option (List Message)) (alterations : S → 
         answers = subst (λ (ls : List Line). AreAnswers w q.sight.order low (xs ++ x ∷ []) (h.all ++ now ∷ []) ls q.floor) (sym is)
             (answers_snoc w q.sight.order x now line (answer_of w p q who query seed ms pair line asks) low xs h.all said h.high
             (answers_more w p.sight.order q.sight.order grows.order low xs h.all said h.high h.answers) (h.least q grows asks.agrees));
-        went = subst (λ (all : List Message). Went told alterations passes s all u) (sym (messages_snoc h.all now)) (went_both told alterations passes both s t u (messages_of h.all) ms h.went went);
+        went = subst (λ (all : List Message). Went sight s all u) (sym (messages_snoc h.all now)) (went_both sight both s t u (messages_of h.all) ms h.went went);
         least = λ r more agrees. kept w q r agrees;
       }
 
-  pub so_far_done : (p : PassView) (xs ys : List Question) (said : List Line) (s t : S) → SoFar told alterations passes w low p xs said s t → xs ≡ ys
-      → (ms : List Message) × Went told alterations passes s ms t × Gave w p.sight.order low ys ms said
+  pub so_far_done : (p : PassView) (xs ys : List Question) (said : List Line) (s t : S) → SoFar sight w low p xs said s t → xs ≡ ys
+      → (ms : List Message) × Went sight s ms t × Gave w p.sight.order low ys ms said
   so_far_done p xs ys said s t h is =
       (messages_of h.all, h.went, record { told = h.all; high = h.high; answers = subst (λ (zs : List Question). AreAnswers w p.sight.order low zs h.all said h.high) is h.answers; messages = refl })
 

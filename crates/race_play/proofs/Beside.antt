@@ -1,6 +1,6 @@
 -- Askers at once.
 use Rattle.std.proofs.Common.{◌≡◌, ◌∙◌, sym, ap, subst, ℕ, suc, ◌-◌, List, [], ◌∷◌, ◌++◌, arith}
-use Rattle.std.specs.Prelude.{IfOk, Result, Ok, Err, Option}
+use Rattle.std.specs.Prelude.{IfOk, Result, Ok, Err}
 use mathlib.Core.List.{IsPrefix}
 use Rattle.list_facts.proofs.Prefixes.{prefix_self}
 use Rattle.prg_chacha.specs.declared.seed.Seed.{Seed}
@@ -18,6 +18,7 @@ use Rattle.race_play.specs.Questions.{Gave, Question}
 use Rattle.race_play.specs.declared.setting.Crew.{Crew}
 use Rattle.race_play.proofs.Answering.{answers_more}
 use Rattle.race_play.proofs.Writing.{grows_trans}
+use Rattle.wire_line.specs.Sights.{Sight}
 
 -- ---- what was asked stays so as the order grows
 
@@ -34,14 +35,14 @@ module _ (w : Widths) (queries : List Query) (master : Seed) (rounds : ℕ) (ord
 pub kept_grows : (p q : PassView) (n : ℕ) → q ≡ record p { sight = record p.sight { room = n } } → Grows p q
 kept_grows p q n is = subst (λ (x : PassView). Grows p x) (sym is) (record { order = prefix_self _; zero = prefix_self _; one = prefix_self _; two = prefix_self _ })
 
-module _ {S : Type 0} (told : S → Option (List Message)) (alterations : S → ℕ) (passes : S → List Message → S → Type 0) (t : TableView) (queries : List Query) (master : Seed) (crew : Crew) (asker : ℕ) where
+module _ {S : Type 0} (sight : Sight S) (t : TableView) (queries : List Query) (master : Seed) (crew : Crew) (asker : ℕ) where
   pub asks_both : (p mine kept mine' q q' : PassView) (v w : S) (vs ws : List S) (next : ℕ) (first others result : Result (List Line) Memory)
-      → AsksOne told alterations passes t queries master crew asker mine mine' v w first
-      → AsksAll told alterations passes t queries master crew next kept q vs ws others
+      → AsksOne sight t queries master crew asker mine mine' v w first
+      → AsksAll sight t queries master crew next kept q vs ws others
       → next ≡ suc asker → mine ≡ fresh_pass p 0 → kept ≡ record p { sight = record p.sight { room = p.sight.room - 0 } }
       → IsOf t q' → Grows q q' → Grows mine' q' → q' ≡ gathered q mine'
       → IfOk result (λ said. (own : List Line) × (more : List Line) × (first ≡ Ok own) × (others ≡ Ok more) × (said ≡ own ++ more))
-      → AsksAll told alterations passes t queries master crew asker p q' (v ∷ vs) (w ∷ ws) result
+      → AsksAll sight t queries master crew asker p q' (v ∷ vs) (w ∷ ws) result
   asks_both p mine kept mine' q q' v w vs ws next first others result one all is split left of grows joins same joined = record {
     of = of;
     grows = grows_trans p kept q' (kept_grows p kept (p.sight.room - 0) left) (grows_trans kept q q' all.grows grows);

@@ -1,11 +1,10 @@
 -- The report of a race, and that no pair is refused where no wire altered a message.
 use Rattle.std.proofs.Common.{◌≡◌, ◌∙◌, refl, sym, ap, subst, ℕ, suc, ◌+◌, ◌<◌, ◌≤◌, Bool, false, ◌||◌, List, [], ◌∷◌, ◌++◌, length, take, drop, get_or, inl, inr, arith, append-nil, length-append}
-use Rattle.std.specs.Prelude.{⊤, IfOk, Option, Some, slice_get, slice_set, Result, Ok, Err}
+use Rattle.std.specs.Prelude.{⊤, IfOk, Some, slice_get, slice_set, Result, Ok, Err}
 use Rattle.std.specs.List.{list_any}
 use Rattle.std.proofs.lemmas.List.{get_or-append-add, get_or_append_left}
 use Rattle.std.proofs.lemmas.List.Folds.{list_any-append}
 use mathlib.Core.List.{IsPrefix}
-use Rattle.fault_count.specs.Causes.{Rose}
 use Rattle.prg_chacha.specs.declared.seed.Seed.{Seed}
 use Rattle.query_plan.specs.declared.query.Query.{Query}
 use Rattle.report_lines.specs.declared.lines.Line.{Line}
@@ -13,7 +12,7 @@ use Rattle.report_lines.specs.declared.lines.Line.TheVariants as lines
 use Rattle.table_schema.specs.declared.rows.Row.{Row}
 use Rattle.table_schema.specs.declared.widths.Widths.{Widths}
 use Rattle.ticket_place.specs.Sights.{IsSound, Seen}
-use Rattle.wire_line.specs.Carried.{BothPass, went_both}
+use Rattle.wire_line.specs.Carried.{went_both}
 use Rattle.wire_line.specs.Lists.{SomeRose}
 use Rattle.wire_line.specs.Messages.{IsHonest, Went}
 use Rattle.wire_line.specs.declared.message.Message.{Message}
@@ -26,6 +25,7 @@ use Rattle.race_play.specs.Reports.{Reports, is_altered, place_lines}
 use Rattle.race_play.specs.Settings.{Setting}
 use Rattle.race_play.specs.declared.together.Raced.{Raced}
 use Rattle.race_play.proofs.Splitting.{whole_slice}
+use Rattle.wire_line.specs.Sights.{Sight, HasAltered, BothPass}
 
 -- each message was received as it was sent
 abbrev pub AllHonest : List (List Message) → Type 0
@@ -34,37 +34,37 @@ AllHonest (ms ∷ sent) = IsHonest ms × AllHonest sent
 
 -- ---- the messages of the last queries go over the first wire
 
-module _ {S : Type 0} (told : S → Option (List Message)) (alterations : S → ℕ) (passes : S → List Message → S → Type 0) where
-  pub went_long : (sent : List (List Message)) (vs ws : List S) → WentEach told alterations passes sent vs ws → length ws ≡ length vs
+module _ {S : Type 0} (sight : Sight S) where
+  pub went_long : (sent : List (List Message)) (vs ws : List S) → WentEach sight sent vs ws → length ws ≡ length vs
   went_long [] vs ws h = ap length h
   went_long (ms ∷ sent) [] ws h = absurd h
   went_long (ms ∷ sent) (v ∷ vs) [] h = absurd h
   went_long (ms ∷ sent) (v ∷ vs) (w ∷ ws) h = ap suc (went_long sent vs ws h.1)
 
-  pub went_first : BothPass passes → (sent : List (List Message)) (vs us : List S) (es : List Message) (w d : S) → 0 < length sent → WentEach told alterations passes sent vs us
-      → Went told alterations passes (get_or us 0 d) es w → WentEach told alterations passes (more_over_first es sent) vs (slice_set us 0 w)
+  pub went_first : BothPass sight → (sent : List (List Message)) (vs us : List S) (es : List Message) (w d : S) → 0 < length sent → WentEach sight sent vs us
+      → Went sight (get_or us 0 d) es w → WentEach sight (more_over_first es sent) vs (slice_set us 0 w)
   went_first both [] vs us es w d lt h went = absurd (omega arith)
   went_first both (ms ∷ sent) [] us es w d lt h went = absurd h
   went_first both (ms ∷ sent) (v ∷ vs) [] es w d lt h went = absurd h
-  went_first both (ms ∷ sent) (v ∷ vs) (u ∷ us) es w d lt h went = (went_both told alterations passes both v u w ms es h.0 went, h.1)
+  went_first both (ms ∷ sent) (v ∷ vs) (u ∷ us) es w d lt h went = (went_both sight both v u w ms es h.0 went, h.1)
 
   -- the same where the wires were lent from a vector
-  pub went_lent : BothPass passes → (sent : List (List Message)) (len : ℕ) (old lent new : List S) (es : List Message) (w d : S) → 0 < length sent → len ≡ length old → lent ≡ old
-      → WentEach told alterations passes sent lent new → Went told alterations passes (get_or (take len (new ++ drop (length new) old)) 0 d) es w
-      → WentEach told alterations passes (more_over_first es sent) old (slice_set (take len (new ++ drop (length new) old)) 0 w)
+  pub went_lent : BothPass sight → (sent : List (List Message)) (len : ℕ) (old lent new : List S) (es : List Message) (w d : S) → 0 < length sent → len ≡ length old → lent ≡ old
+      → WentEach sight sent lent new → Went sight (get_or (take len (new ++ drop (length new) old)) 0 d) es w
+      → WentEach sight (more_over_first es sent) old (slice_set (take len (new ++ drop (length new) old)) 0 w)
   went_lent both sent len old lent new es w d lt size same h went =
-      let each = subst (λ (l : List S). WentEach told alterations passes sent l new) same h in
+      let each = subst (λ (l : List S). WentEach sight sent l new) same h in
       let whole : take len (new ++ drop (length new) old) ≡ new = whole_slice old new len (went_long sent old new each) size in
-      subst (λ (l : List S). WentEach told alterations passes (more_over_first es sent) old (slice_set l 0 w)) (sym whole)
-      (went_first both sent old new es w d lt each (subst (λ (l : List S). Went told alterations passes (get_or l 0 d) es w) whole went))
+      subst (λ (l : List S). WentEach sight (more_over_first es sent) old (slice_set l 0 w)) (sym whole)
+      (went_first both sent old new es w d lt each (subst (λ (l : List S). Went sight (get_or l 0 d) es w) whole went))
 
   -- where no count rose, each message was received as it was sent
-  pub all_honest : (sent : List (List Message)) (vs ws : List S) → WentEach told alterations passes sent vs ws → ¬ SomeRose alterations vs ws → AllHonest sent
+  pub all_honest : (sent : List (List Message)) (vs ws : List S) → WentEach sight sent vs ws → ¬ SomeRose sight vs ws → AllHonest sent
   all_honest [] vs ws h still = tt
   all_honest (ms ∷ sent) [] ws h still = absurd h
   all_honest (ms ∷ sent) (v ∷ vs) [] h still = absurd h
   all_honest (ms ∷ sent) (v ∷ vs) (w ∷ ws) h still =
-      (h.0.honest (λ (rose : Rose (alterations v) (alterations w)). still (inl rose)), all_honest sent vs ws h.1 (λ (rose : SomeRose alterations vs ws). still (inr rose)))
+      (h.0.honest (λ (rose : HasAltered sight v w). still (inl rose)), all_honest sent vs ws h.1 (λ (rose : SomeRose sight vs ws). still (inr rose)))
 
 -- ---- the report
 

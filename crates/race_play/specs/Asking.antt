@@ -1,5 +1,5 @@
 -- What an asker, and what several at once, need and do, each in one fact.
-use Rattle.std.specs.Prelude.{◌≡◌, ℕ, ◌+◌, ◌<◌, ◌≤◌, Option, Result, IfOk, List, [], length}
+use Rattle.std.specs.Prelude.{◌≡◌, ℕ, ◌+◌, ◌<◌, ◌≤◌, Result, IfOk, List, [], length}
 use Rattle.prg_chacha.specs.declared.seed.Seed.{Seed}
 use Rattle.query_plan.specs.declared.query.Query.{Query}
 use Rattle.report_lines.specs.declared.lines.Line.{Line}
@@ -11,6 +11,7 @@ use Rattle.race_play.specs.Askers.{AreAsked, WentEach}
 use Rattle.race_play.specs.Questions.{Gave, rounds_of}
 use Rattle.race_play.specs.Settings.{AreLegal}
 use Rattle.race_play.specs.declared.setting.Crew.{Crew}
+use Rattle.wire_line.specs.Sights.{Sight}
 
 -- a pass that never meets Again, without places of its own, of a table over which the queries are legal
 pub record CanAsk (t : TableView) (queries : List Query) (crew : Crew) (p : PassView) : Type 0 where
@@ -21,23 +22,23 @@ pub record CanAsk (t : TableView) (queries : List Query) (crew : Crew) (p : Pass
   pub some : 0 < crew.workers
 
 -- the rounds of an asker, with its pass and its wire before and after
-pub record AsksOne {W : Type 0} (told : W → Option (List Message)) (alterations : W → ℕ) (passes : W → List Message → W → Type 0)
+pub record AsksOne {W : Type 0} (sight : Sight W)
     (t : TableView) (queries : List Query) (master : Seed) (crew : Crew) (asker : ℕ)
     (p q : PassView) (v w : W) (result : Result (List Line) Memory) : Type 0 where
   pub of : IsOf t q
   pub grows : Grows p q
   pub own : q.sight ≡ record p.sight { order = q.sight.order }
-  pub asked : (ms : List Message) × Went told alterations passes v ms w
+  pub asked : (ms : List Message) × Went sight v ms w
       × IfOk result (Gave t.widths q.sight.order 0 (rounds_of queries master asker crew.rounds) ms)
 
 -- the askers from one on, with the pass from which theirs were split and into which they were gathered, and their wires
-pub record AsksAll {W : Type 0} (told : W → Option (List Message)) (alterations : W → ℕ) (passes : W → List Message → W → Type 0)
+pub record AsksAll {W : Type 0} (sight : Sight W)
     (t : TableView) (queries : List Query) (master : Seed) (crew : Crew) (asker : ℕ)
     (p q : PassView) (vs ws : List W) (result : Result (List Line) Memory) : Type 0 where
   pub of : IsOf t q
   pub grows : Grows p q
   pub own : q.sight.own ≡ []
   pub room : p.sight.room ≤ q.sight.room
-  pub asked : (sent : List (List Message)) × WentEach told alterations passes sent vs ws
+  pub asked : (sent : List (List Message)) × WentEach sight sent vs ws
       × IfOk result (AreAsked t.widths queries master crew.rounds q.sight.order asker sent)
       × (length sent + asker ≡ crew.askers)

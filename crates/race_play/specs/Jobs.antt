@@ -9,7 +9,7 @@ use Rattle.race_play.specs.Writes.{Wrote_back}
 use Rattle.race_play.specs.declared.jobs.WriterJob.{WriterJob}
 use Rattle.race_play.specs.declared.write.Written.{Written}
 
--- a pass that has written nothing and was told nothing
+-- a pass that has written nothing and learned nothing
 pub record IsFresh (p : PassView) : Type 0 where
   pub own : p.sight.own ≡ []
   pub floor : p.floor ≡ 0

@@ -1,4 +1,4 @@
--- What askers ask, and what they are told.
+-- What askers ask, and what they are answered.
 use Rattle.std.specs.Prelude.{◌≡◌, ℕ, zero, suc, ◌%◌, ◌≤◌, Option, Some, None, List, [], ◌∷◌, ◌++◌, length, take, slice_get}
 use Rattle.prg_chacha.specs.Prg.{derive_of}
 use Rattle.prg_chacha.specs.declared.seed.Seed.{Seed}
@@ -46,7 +46,7 @@ abbrev pub ends_of : List Query → Seed → ℕ → List Question
 ends_of queries master zero = []
 ends_of queries master (suc q) = ends_of queries master q ++ question_of (slice_get queries q) (at_end master q)
 
--- what was told of a question: over how many rows, the messages that were carried, and the pair that they opened
+-- what was answered to a question: over how many rows, the messages that were carried, and the pair that they opened
 pub record Told : Type 0 where
   pub rows : ℕ
   pub messages : List Message

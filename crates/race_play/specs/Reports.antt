@@ -21,8 +21,8 @@ abbrev pub place_lines : ℕ → List ℕ → List Line
 place_lines place [] = []
 place_lines place (i ∷ order) = lines.Place place i ∷ place_lines (suc place) order
 
--- A report: how many rows there are, which row stands at each place, what each writer saw after its rows, what each asker was told round by
--- round, and each query over all rows; all over the one printed order. The messages went over the askers' wires, those of the last
+-- A report: how many rows there are, which row stands at each place, what each writer saw after its rows, what each asker was answered
+-- round by round, and each query over all rows; all over the one printed order. The messages went over the askers' wires, those of the last
 -- queries over the first one.
 pub record Reports (s : Setting) (sent : List (List Message)) (said : List Line) : Type 0 where
   pub order : List ℕ

@@ -37,7 +37,7 @@ pub(crate) fn ask_rounds<R: Threads + Wait + Sync, W: Wire, G: Gate>(
     wire: &mut W,
 ) -> Result<Said, Memory>
     requires { CanAsk table.now queries.now crew.now pass.old }
-    ensures { AsksOne W.told W.alterations W.passes table.now queries.now master.now crew.now asker
+    ensures { AsksOne W.sight table.now queries.now master.now crew.now asker
         pass.old pass.new wire.old wire.new result }
 {
     let mut said = Said::new(alloc);
@@ -81,7 +81,7 @@ pub(crate) fn ask_ends<R: Threads + Wait + Sync, W: Wire>(
     ensures pass { IsOf table.now pass.new }
     ensures grows { Grows pass.old pass.new }
     ensures own { pass.new.sight ≡ record pass.old.sight { order = pass.new.sight.order } }
-    ensures asked { (ms : List Message) × Went W.told W.alterations W.passes wire.old ms wire.new
+    ensures asked { (ms : List Message) × Went W.sight wire.old ms wire.new
         × IfOk result (Gave table.now.widths pass.new.sight.order rows (ends_of queries.now master.now (length queries.now)) ms) }
 {
     let mut said = Said::new(alloc);

@@ -35,7 +35,7 @@ pub(crate) fn race_askers<R: Threads + Wait + Sync, W: Wire + Send, G: Gate + Sy
     requires can { CanAsk table.now queries.now crew.now pass.old }
     requires asker { asker ≤ crew.now.askers }
     requires wires { crew.now.askers ≤ asker + length wires.old }
-    ensures { AsksAll W.told W.alterations W.passes table.now queries.now master.now crew.now asker
+    ensures { AsksAll W.sight table.now queries.now master.now crew.now asker
         pass.old pass.new wires.old wires.new result }
 {
     if asker == crew.askers {
@@ -72,14 +72,14 @@ fn ask_beside<R: Threads + Wait + Sync, W: Wire + Send, G: Gate + Sync>(
     requires can { CanAsk table.now queries.now crew.now pass.old }
     requires asker { asker < crew.now.askers }
     requires wires { crew.now.askers ≤ asker + 1 + length rest.old }
-    ensures one { AsksOne W.told W.alterations W.passes table.now queries.now master.now crew.now asker
+    ensures one { AsksOne W.sight table.now queries.now master.now crew.now asker
         mine.old mine.new wire.old wire.new result.0 }
-    ensures others { AsksAll W.told W.alterations W.passes table.now queries.now master.now crew.now (asker + 1)
+    ensures others { AsksAll W.sight table.now queries.now master.now crew.now (asker + 1)
         pass.old pass.new rest.old rest.new result.1 }
 {
     let mut first = || -> Result<Said, Memory>
         requires { IsSync R.row × IsSync G.row × IsSend W.row × CanAsk table.now queries.now crew.now mine.now }
-        ensures { AsksOne W.told W.alterations W.passes table.entry.now queries.entry.now master.entry.now crew.entry.now asker
+        ensures { AsksOne W.sight table.entry.now queries.entry.now master.entry.now crew.entry.now asker
             mine.entry.now mine.exit.now wire.entry.now wire.exit.now result }
     {
         ask_rounds(
@@ -90,7 +90,7 @@ fn ask_beside<R: Threads + Wait + Sync, W: Wire + Send, G: Gate + Sync>(
     let mut others = || -> Result<Said, Memory>
         requires { IsSync R.row × IsSync G.row × IsSend W.row × CanAsk table.now queries.now crew.now pass.now
             × (next ≤ crew.now.askers) × (crew.now.askers ≤ next + length rest.now) }
-        ensures { AsksAll W.told W.alterations W.passes table.entry.now queries.entry.now master.entry.now crew.entry.now next
+        ensures { AsksAll W.sight table.entry.now queries.entry.now master.entry.now crew.entry.now next
             pass.entry.now pass.exit.now rest.entry.now rest.exit.now result }
     {
         race_askers(

@@ -2,7 +2,7 @@
 //!
 //! [`race`] is the whole. It makes a table, gives each writer and each asker a pass of its own, runs them at once and waits for
 //! them. Its report says how many rows there are, which row stands at each place, what each writer saw after its rows, what each
-//! asker was told round by round, and what each query comes to over all rows. [`write_rows`] is one writer, and [`ask_round`] one
+//! asker was answered round by round, and what each query comes to over all rows. [`write_rows`] is one writer, and [`ask_round`] one
 //! round of an asker, each on a table and a pass that the caller lends.
 //!
 //! No order of the threads in time is promised, so two races over the same rows can print different reports. What each report is

@@ -3,7 +3,7 @@ ghost use Rattle.std.specs.Prelude.{◌≡◌, ◌<◌, ◌≤◌, false, IfOk, 
 ghost use Rattle.std.specs.List.{list_any};
 ghost use Rattle.wire_line.specs.Lists.{SomeRose};
 ghost use Rattle.wire_line.specs.declared.message.Message.{Message};
-ghost use Rattle.race_play.specs.Askers.{WentEach};
+ghost use Rattle.race_play.specs.Askers.{CarriedEach};
 ghost use Rattle.race_play.specs.Reports.{Reports, is_altered};
 ghost use Rattle.race_play.specs.Settings.{IsSetting, setting_of};
 
@@ -23,7 +23,7 @@ use wire_line::Wire;
 /// query is asked over all rows. Asker a asks over wire a, and the last queries go over the first wire; other wires are as they were.
 /// No order of the threads in time is promised; `Reports` says what the report is. The call waits for the threads.
 ///
-/// `altered` tells of an answer that the check refused, in a round or at the end. The only error is out of memory: there is no report
+/// `altered` says whether the check refused an answer, in a round or at the end. The only error is out of memory: there is no report
 /// then, and messages may have been carried.
 pub fn race<R: Threads + Wait + Sync, W: Wire + Send, G: Gate + Sync>(
     rt: &R,
@@ -37,10 +37,10 @@ pub fn race<R: Threads + Wait + Sync, W: Wire + Send, G: Gate + Sync>(
     requires wires { race.now.crew.askers ≤ length wires.old.items }
     ensures wires { length wires.new.items ≡ length wires.old.items }
     ensures reports { IfOk result (λ r. (sent : List (List Message))
-        × WentEach W.told W.alterations W.passes sent wires.old.items wires.new.items
+        × CarriedEach W.sight wires.old.items wires.new.items sent
         × Reports (setting_of race.now) sent r.report) }
     ensures altered { IfOk result (λ r. r.altered ≡ list_any is_altered r.report) }
-    ensures accepted { ¬ SomeRose W.alterations wires.old.items wires.new.items → IfOk result (λ r. r.altered ≡ false) }
+    ensures accepted { ¬ SomeRose W.sight wires.old.items wires.new.items → IfOk result (λ r. r.altered ≡ false) }
 {
     let room = race.rows.len().max(1) as u32;
     let Ok((table, mut pass)) = Table::new(alloc, race.widths, room) else {

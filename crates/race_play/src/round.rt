@@ -1,6 +1,5 @@
 //! A round of an asker.
 ghost use Rattle.std.specs.Prelude.{◌≡◌, ◌<◌, List, IfOk};
-ghost use Rattle.fault_count.specs.Causes.{Rose};
 ghost use Rattle.prg_chacha.specs.Prg.{derive_of};
 ghost use Rattle.query_plan.specs.Query.{Suits};
 ghost use Rattle.report_lines.specs.declared.lines.Who.TheVariants as who;
@@ -9,6 +8,7 @@ ghost use Rattle.wire_line.specs.Messages.{Went};
 ghost use Rattle.wire_line.specs.declared.message.Message.{Message};
 ghost use Rattle.waldo_table.specs.Tables.{Grows, IsCovered, IsOf};
 ghost use Rattle.race_play.specs.Rounds.{Asks, IsPlainLine};
+ghost use Rattle.wire_line.specs.Sights.{HasAltered};
 
 use crate::gate::{Gate, Point};
 use crate::lines::line_of_ask;
@@ -42,9 +42,9 @@ pub(crate) fn ask_line<R: Threads + Wait + Sync, W: Wire>(
     ensures grows { Grows pass.old pass.new }
     ensures own { pass.new.sight ≡ record pass.old.sight { order = pass.new.sight.order } }
     ensures covered { IfOk result (λ _. IsCovered pass.new) }
-    ensures asks { (ms : List Message) × (pair : OpenedPair) × Went W.told W.alterations W.passes wire.old ms wire.new
+    ensures asks { (ms : List Message) × (pair : OpenedPair) × Went W.sight wire.old ms wire.new
         × IfOk result (Asks table.now.widths pass.old pass.new who query.now seed.now ms pair) }
-    ensures plain { ¬ Rose (W.alterations wire.old) (W.alterations wire.new)
+    ensures plain { ¬ HasAltered W.sight wire.old wire.new
         → IfOk result (IsPlainLine table.now.widths pass.new who query.now) }
 {
     let asked = table.ask(rt, alloc, pass, query, seed, wire, workers);
@@ -55,7 +55,7 @@ pub(crate) fn ask_line<R: Threads + Wait + Sync, W: Wire>(
 /// round, both from 0, and passes the gate. Each server's rows are shared among `workers` threads, at least one.
 ///
 /// The line has the answer, or, where the check refuses it, the pair that the messages opened. The pass is one that never meets
-/// `Again`: it has seen as many rows at each server as its floor says, as a pass has that was told nothing and appended nothing. So
+/// `Again`: it has seen as many rows at each server as its floor says, as a pass has that learned nothing and appended nothing. So
 /// the only error is out of memory, after which messages may have been carried.
 pub fn ask_round<R: Threads + Wait + Sync, W: Wire, G: Gate>(
     rt: &R,
@@ -78,10 +78,10 @@ pub fn ask_round<R: Threads + Wait + Sync, W: Wire, G: Gate>(
     ensures grows { Grows pass.old pass.new }
     ensures own { pass.new.sight ≡ record pass.old.sight { order = pass.new.sight.order } }
     ensures covered { IfOk result (λ _. IsCovered pass.new) }
-    ensures asks { (ms : List Message) × (pair : OpenedPair) × Went W.told W.alterations W.passes wire.old ms wire.new
+    ensures asks { (ms : List Message) × (pair : OpenedPair) × Went W.sight wire.old ms wire.new
         × IfOk result (Asks table.now.widths pass.old pass.new (who.Round asker round) query.now
         (derive_of master.now 2 asker round) ms pair) }
-    ensures plain { ¬ Rose (W.alterations wire.old) (W.alterations wire.new)
+    ensures plain { ¬ HasAltered W.sight wire.old wire.new
         → IfOk result (IsPlainLine table.now.widths pass.new (who.Round asker round) query.now) }
 {
     let seed = derive(master, 2, u16::from(asker), u64::from(round));

@@ -106,7 +106,7 @@ fn run_both<R: Threads + Wait + Sync, W: Wire + Send, G: Gate + Sync>(
     requires can { CanAsk table.now race.now.queries.now race.now.crew pass.old }
     requires wires { race.now.crew.askers ≤ length wires.old }
     ensures done { AllDone table.now race.now.rows.now race.now.master race.now.crew.writers jobs.old.items jobs.new.items }
-    ensures asked { AsksAll W.told W.alterations W.passes table.now race.now.queries.now race.now.master race.now.crew 0
+    ensures asked { AsksAll W.sight table.now race.now.queries.now race.now.master race.now.crew 0
         pass.old pass.new wires.old wires.new result }
 {
     let mut write = ||
@@ -129,7 +129,7 @@ fn run_both<R: Threads + Wait + Sync, W: Wire + Send, G: Gate + Sync>(
     let mut ask = || -> Result<Said, Memory>
         requires { IsSync R.row × IsSync G.row × IsSend W.row × CanAsk table.now race.now.queries.now race.now.crew pass.now
             × (race.now.crew.askers ≤ length wires.now) }
-        ensures { AsksAll W.told W.alterations W.passes table.entry.now race.entry.now.queries.now race.entry.now.master
+        ensures { AsksAll W.sight table.entry.now race.entry.now.queries.now race.entry.now.master
             race.entry.now.crew 0 pass.entry.now pass.exit.now wires.entry.now wires.exit.now result }
     {
         race_askers(
@@ -176,7 +176,7 @@ pub(crate) fn race_all<R: Threads + Wait + Sync, W: Wire + Send, G: Gate + Sync>
     requires room { length race.now.rows.now ≤ table.now.book.capacity }
     requires wires { race.now.crew.askers ≤ length wires.old }
     ensures pass { IsOf table.now pass.new }
-    ensures raced { (sent : List (List Message)) × WentEach W.told W.alterations W.passes sent wires.old wires.new
+    ensures raced { (sent : List (List Message)) × WentEach W.sight sent wires.old wires.new
         × IfOk result (IsRaced (setting_of race.now) pass.new sent) }
 {
     let mut jobs = split_jobs(alloc, table, pass, race.rows.len(), race.crew.writers)?;

@@ -17,7 +17,7 @@ pub struct Three {
 }
 
 /// Splits a list into three that add up to it, place by place: at place i the pads 2i and 2i + 1 of the seed,
-/// and what is then left of the number. The only error is want of memory.
+/// and what is then left of the number. The only error is out of memory.
 pub fn split(alloc: Global, values: &[u128], seed: &Seed) -> Result<Three, Memory>
     ensures x0 { IfOk result (λ t. t.x0 ≡ share_of 0 seed.now values.now) }
     ensures x1 { IfOk result (λ t. t.x1 ≡ share_of 1 seed.now values.now) }
@@ -64,7 +64,7 @@ impl Three {
     }
 
     /// What server 0, 1 or 2 holds: its own share and that of the next server, both copied. The only error is
-    /// want of memory.
+    /// out of memory.
     pub fn pair(&self, alloc: Global, server: u8) -> Result<PairList, Memory>
         requires { server < 3 }
         ensures first { IfOk result (λ p. p.first ≡ list_at self.now server) }
@@ -76,7 +76,7 @@ impl Three {
     }
 
     /// What servers 0, 1 and 2 hold. Each share stands at two servers: it is moved to one and copied for the
-    /// other. The only error is want of memory.
+    /// other. The only error is out of memory.
     pub fn into_pairs(self, alloc: Global) -> Result<(PairList, PairList, PairList), Memory>
         ensures zero { IfOk result (λ p. (p.0.first ≡ self.x0) × (p.0.second ≡ self.x1)) }
         ensures one { IfOk result (λ p. (p.1.first ≡ self.x1) × (p.1.second ≡ self.x2)) }

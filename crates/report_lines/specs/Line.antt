@@ -34,16 +34,21 @@ back_gap_text writer server had floor = codes "back " ++ decimal writer ++ codes
 
 -- a line's text, without its line feed
 abbrev pub line_text : Line → List ℕ
-line_text (lines.Answer who rows aggregate total) = who_text who ++ codes " rows " ++ decimal rows ++ codes " " ++ aggregate_text aggregate ++ codes " " ++ decimal total
-line_text (lines.Altered who rows total weighted) = who_text who ++ codes " rows " ++ decimal rows ++ codes " altered total " ++ decimal total ++ codes " weighted " ++ decimal weighted
+line_text (lines.Answer who rows aggregate total) =
+    who_text who ++ codes " rows " ++ decimal rows ++ codes " " ++ aggregate_text aggregate ++ codes " " ++ decimal total
+line_text (lines.Altered who rows total weighted) =
+    who_text who ++ codes " rows " ++ decimal rows ++ codes " altered total " ++ decimal total ++ codes " weighted " ++ decimal weighted
 line_text (lines.Again who server had floor) = who_text who ++ codes " " ++ gap_text server had floor
 line_text (lines.Draw actor place) = codes "draw " ++ decimal actor ++ codes " place " ++ decimal place
-line_text (lines.Look actor server prefix) = codes "look " ++ decimal actor ++ codes " server " ++ decimal server ++ codes " prefix " ++ decimal prefix
+line_text (lines.Look actor server prefix) =
+    codes "look " ++ decimal actor ++ codes " server " ++ decimal server ++ codes " prefix " ++ decimal prefix
 line_text (lines.Rows count) = codes "rows " ++ decimal count
 line_text (lines.Place place row) = codes "place " ++ decimal place ++ codes " row " ++ decimal row
 line_text (lines.Back writer rows) = codes "back " ++ decimal writer ++ codes " rows " ++ decimal rows
 line_text (lines.BackAgain writer server had floor) = back_gap_text writer server had floor
-line_text (lines.Trace index server visits words) = codes "trace " ++ decimal index ++ codes " server " ++ decimal server ++ codes " visits " ++ decimal visits ++ codes " words " ++ decimal words
+line_text (lines.Trace index server visits words) =
+    codes "trace " ++ decimal index ++ codes " server " ++ decimal server
+    ++ codes " visits " ++ decimal visits ++ codes " words " ++ decimal words
 line_text (lines.BadWord index) = codes "waldo: bad word " ++ decimal index
 line_text (lines.Missing name) = codes "waldo: missing " ++ name
 line_text (lines.BadStep index) = codes "waldo: step " ++ decimal index ++ codes " not allowed"

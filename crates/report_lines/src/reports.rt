@@ -33,7 +33,7 @@ impl Report {
         }
     }
 
-    /// Adds a line at the end. After want of memory the report is as before.
+    /// Adds a line at the end. Out of memory, the report is as before.
     pub fn push(&mut self, line: Line) -> Result<(), Memory>
         ensures added { OnOk result (self.new ≡ self.old ++ line ∷ []) }
         ensures kept { OnErr result (self.new ≡ self.old) }

@@ -1,38 +1,34 @@
 //! Sinks of bytes.
 ghost use Rattle.std.specs.Prelude.{◌≡◌, ◌↔◌, ◌+◌, ◌-◌, ◌<◌, ◌⊎◌, ◌++◌, [], length, take, IfOk, IsErr, OnErr, Contains, Some, None};
-ghost use Rattle.fault_count.specs.Causes.{HasCause};
-ghost use Rattle.report_lines.specs.Sink.{Takes, next};
+ghost use Rattle.fault_count.specs.Causes.{HasCause, next};
+ghost use Rattle.fault_count.specs.Streams.{ByteSight};
+ghost use Rattle.report_lines.specs.Sink.{Takes};
 
 use fault_count::raised;
 use ring128::Memory;
 use std::alloc::Global;
 use std::marker::Model;
 
-/// A put failed, and only a front of the piece was taken.
+/// A put failed, and only a prefix of the piece was taken.
 #[derive(Clone, Copy, Debug, PartialEq, Eq)]
 pub struct Failed;
 
-/// A sink of bytes. It may tell the bytes that it has taken, and counts its faults.
+/// A sink of bytes. It may report the bytes that it has taken, and counts its faults.
 pub trait Sink {
-    ghost use Rattle.std.specs.Prelude.{List, ℕ, Option};
-
-    // The bytes taken so far, where it tells them.
-    ghost taken: { Self → Option (List ℕ) };
-
-    // How many puts have failed.
-    ghost fault_count: { Self → ℕ };
+    // What contracts see of a sink: the bytes taken so far, where it reports them, and how many puts have failed.
+    ghost sight: { ByteSight Self };
 
     /// How many puts have failed; the count stops at 2^64 - 1.
     fn faults(&self) -> u64
-        ensures { result ≡ fault_count self.now };
+        ensures { result ≡ sight.faults self.now };
 
-    /// Takes the whole piece; or fails, raises its count, and has taken a front of the piece.
+    /// Takes the whole piece; or fails, raises its count, and has taken a prefix of the piece.
     fn put(&mut self, piece: &[u8]) -> Result<(), Failed>
-        ensures bytes { Takes (taken self.old) (taken self.new) result piece.now }
-        ensures cause { HasCause (fault_count self.old) (fault_count self.new) result };
+        ensures bytes { Takes (sight.bytes self.old) (sight.bytes self.new) result piece.now }
+        ensures cause { HasCause (sight.faults self.old) (sight.faults self.new) result };
 }
 
-/// A sink in memory with room for so many bytes, some of whose puts fail.
+/// A sink in memory with room for `room` bytes, some of whose puts fail.
 #[derive(Drop)]
 pub struct MemorySink {
     bytes: Vec<u8>,
@@ -54,7 +50,7 @@ impl Model for MemorySink {
 }
 
 impl MemorySink {
-    /// An empty sink that takes so many bytes in all, and whose puts with these numbers, from 0, fail. Its
+    /// An empty sink that takes `room` bytes in all, and whose puts with these numbers, from 0, fail. Its
     /// memory is taken here, so a put needs none.
     pub fn new(alloc: Global, room: u64, failing: &[u64]) -> Result<MemorySink, Memory>
         ensures { IfOk result (λ s. s ≡ record { taken = []; room = room; number = 0; failing = failing.now; faults = 0 }) }
@@ -78,9 +74,7 @@ impl MemorySink {
 }
 
 impl Sink for MemorySink {
-    ghost taken = { λ s. Some s.taken };
-
-    ghost fault_count = { λ s. s.faults };
+    ghost sight = { record { bytes = λ s. Some s.taken; faults = λ s. s.faults } };
 
     fn faults(&self) -> u64 {
         self.faults
@@ -91,9 +85,11 @@ impl Sink for MemorySink {
         ensures cause { HasCause self.old.faults self.new.faults result }
 
         // Just the puts with the numbers given fail, and those past the room.
-        ensures fails { IsErr result ↔ (Contains self.old.failing self.old.number ⊎ (self.old.room < length self.old.taken + length piece.now)) }
+        ensures fails { IsErr result
+            ↔ (Contains self.old.failing self.old.number ⊎ (self.old.room < length self.old.taken + length piece.now)) }
         ensures by_number { Contains self.old.failing self.old.number → self.new.taken ≡ self.old.taken }
-        ensures by_room { ¬ (Contains self.old.failing self.old.number) → self.new.taken ≡ self.old.taken ++ take (self.old.room - length self.old.taken) piece.now }
+        ensures by_room { ¬ (Contains self.old.failing self.old.number)
+            → self.new.taken ≡ self.old.taken ++ take (self.old.room - length self.old.taken) piece.now }
 
         // What else there is: the next number, and one fault more.
         ensures number { self.new.number ≡ next self.old.number }
@@ -118,7 +114,7 @@ impl Sink for MemorySink {
     }
 }
 
-/// A sink that keeps nothing, tells nothing and never fails.
+/// A sink that keeps nothing, reports nothing and never fails.
 #[derive(Clone, Copy, Debug)]
 pub struct SureSink;
 
@@ -130,9 +126,7 @@ impl SureSink {
 }
 
 impl Sink for SureSink {
-    ghost taken = { λ _. None };
-
-    ghost fault_count = { λ _. 0 };
+    ghost sight = { record { bytes = λ _. None; faults = λ _. 0 } };
 
     fn faults(&self) -> u64 {
         0

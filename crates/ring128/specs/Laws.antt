@@ -8,6 +8,6 @@ pub record IsThree (n : ℕ) (xs ys zs : List ℕ) : Type 0 where
   pub second : length ys ≡ n
   pub third : length zs ≡ n
 
--- two functions that add up to a third at each number of so many bits
+-- two functions that add up to a third at each number of `bits` bits
 abbrev pub IsKeyPair : ℕ → (ℕ → ℕ) → (ℕ → ℕ) → (ℕ → ℕ) → Type 0
 IsKeyPair bits f g whole = (x : ℕ) → x < 2 ^ bits → plus (f x) (g x) ≡ whole x

@@ -1,6 +1,6 @@
 use std::alloc::{AllocError, AllocFailed};
 
-/// Want of memory. Any call that takes an allocator may answer it, whatever its arguments are.
+/// Out of memory. Any call that takes an allocator may answer it, whatever its arguments are.
 #[derive(Clone, Copy, Debug, PartialEq, Eq)]
 pub struct Memory;
 

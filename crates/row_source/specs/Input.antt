@@ -1,7 +1,8 @@
 -- How an input is met, and what each answer of a reader says of its source.
-use Rattle.std.specs.Prelude.{◌≡◌, ℕ, ◌+◌, ◌≤◌, List, length, Option}
+use Rattle.std.specs.Prelude.{◌≡◌, ℕ, ◌+◌, ◌≤◌, List, length}
 use Rattle.std.specs.Io.KnownBytes.{Keeps, Consumes, IsAtEnd}
 use Rattle.fault_count.specs.Causes.{Rose}
+use Rattle.fault_count.specs.Streams.{Change}
 use Rattle.row_source.specs.declared.input.ReadFault.{ReadFault}
 use Rattle.row_source.specs.declared.input.ReadFault.TheVariants.{Failed, TooLong, Memory}
 
@@ -16,15 +17,15 @@ pub data Reading : Type 0 where
   Long : Reading
   Broken : Reading
 
--- what each of these says of a source that is read up to a limit: its bytes left and its faults, each before and after
-abbrev pub Reads : ℕ → Reading → Option (List ℕ) → Option (List ℕ) → ℕ → ℕ → Type 0
-Reads limit Untouched old new before now = Keeps old new × (now ≡ before)
-Reads limit (Whole bytes) old new before now = (length bytes ≤ limit) × Consumes old new bytes × IsAtEnd new × (now ≡ before)
-Reads limit Long old new before now = (bytes : List ℕ) × (length bytes ≡ limit + 1) × Consumes old new bytes × (now ≡ before)
-Reads limit Broken old new before now = Rose before now
+-- what each of these says of a source that is read up to a limit
+abbrev pub Reads : ℕ → Reading → Change → Type 0
+Reads limit Untouched c = Keeps c.old c.new × (c.now ≡ c.before)
+Reads limit (Whole bytes) c = (length bytes ≤ limit) × Consumes c.old c.new bytes × IsAtEnd c.new × (c.now ≡ c.before)
+Reads limit Long c = (bytes : List ℕ) × (length bytes ≡ limit + 1) × Consumes c.old c.new bytes × (c.now ≡ c.before)
+Reads limit Broken c = Rose c.before c.now
 
 -- what a fault of reading says of the source
-abbrev pub HasReadFault : ℕ → ReadFault → Option (List ℕ) → Option (List ℕ) → ℕ → ℕ → Type 0
-HasReadFault limit Failed old new before now = Reads limit Broken old new before now
-HasReadFault limit TooLong old new before now = Reads limit Long old new before now
-HasReadFault limit Memory old new before now = now ≡ before
+abbrev pub HasReadFault : ℕ → ReadFault → Change → Type 0
+HasReadFault limit Failed c = Reads limit Broken c
+HasReadFault limit TooLong c = Reads limit Long c
+HasReadFault limit Memory c = c.now ≡ c.before

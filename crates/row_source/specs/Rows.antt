@@ -27,7 +27,7 @@ bucket_field column field = number_field field >>= λ n. ok_or (bucket_of column
 unfoldable pub value_field : List ℕ → Result ℤ RowWhy
 value_field field = number_field field >>= λ n. if nat_le n 4294967295 then Ok (pos n) else Err Value
 
--- the row of the columns and fields that are left, behind so many buckets
+-- the row of the columns and fields that are left, behind the first `i` buckets
 unfoldable pub row_from : List Column → ℕ → List ℕ → List (List ℕ) → Result Row RowWhy
 row_from columns i buckets [] = Err Fields
 row_from [] i buckets (f ∷ fs) = value_field f >>= λ v. Ok (record { columns = i; buckets = buckets; value = v })

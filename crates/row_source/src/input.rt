@@ -1,5 +1,6 @@
 //! A whole input, within a bound.
 ghost use Rattle.std.specs.Prelude.{◌≡◌, ◌^◌, ◌<◌, IfOk, IfErr};
+ghost use Rattle.fault_count.specs.Streams.{change};
 ghost use Rattle.row_source.specs.Input.{HasReadFault, Reads, most_bytes};
 ghost use Rattle.row_source.specs.Input.Reading.{Whole};
 ghost use Rattle.row_source.specs.declared.input.ReadFault.TheVariants.{Memory};
@@ -32,11 +33,11 @@ impl From<AllocError> for ReadFault {
     }
 }
 
-// All bytes of a source that has at most so many.
+// All bytes of a source that has at most `limit` of them.
 fn read_within<S: Source>(alloc: Global, source: &mut S, limit: u64) -> Result<Vec<u8>, ReadFault>
     requires { limit < 2 ^ 32 }
-    ensures whole { IfOk result (λ v. Reads limit (Whole v.items) (S.left source.old) (S.left source.new) (S.fault_count source.old) (S.fault_count source.new)) }
-    ensures fault { IfErr result (λ f. HasReadFault limit f (S.left source.old) (S.left source.new) (S.fault_count source.old) (S.fault_count source.new)) }
+    ensures whole { IfOk result (λ v. Reads limit (Whole v.items) (change S.sight source.old source.new)) }
+    ensures fault { IfErr result (λ f. HasReadFault limit f (change S.sight source.old source.new)) }
 {
     let limit = limit as usize;
     let mut bytes = Vec::new(alloc);
@@ -55,8 +56,8 @@ fn read_within<S: Source>(alloc: Global, source: &mut S, limit: u64) -> Result<V
 /// All bytes of a source, to its end, where there are at most 16,777,216. It makes at most that many reads
 /// and one more.
 pub fn read_all<S: Source>(alloc: Global, source: &mut S) -> Result<Vec<u8>, ReadFault>
-    ensures whole { IfOk result (λ v. Reads most_bytes (Whole v.items) (S.left source.old) (S.left source.new) (S.fault_count source.old) (S.fault_count source.new)) }
-    ensures fault { IfErr result (λ f. HasReadFault most_bytes f (S.left source.old) (S.left source.new) (S.fault_count source.old) (S.fault_count source.new)) }
+    ensures whole { IfOk result (λ v. Reads most_bytes (Whole v.items) (change S.sight source.old source.new)) }
+    ensures fault { IfErr result (λ f. HasReadFault most_bytes f (change S.sight source.old source.new)) }
 {
     read_within(alloc, source, LIMIT)
 }

@@ -21,7 +21,8 @@ fn take_row(
     rows: &mut Vec<Row>,
     bad: Option<RowWhy>,
 ) -> Result<Option<RowWhy>, RowFault>
-    ensures taken { IfOk result (λ after. (rs : List (List (List ℕ))) → outcome schema.now rows.new.items after rs ≡ outcome schema.now rows.old.items bad (fields_of line.now ∷ rs)) }
+    ensures taken { IfOk result (λ after. (rs : List (List (List ℕ)))
+        → outcome schema.now rows.new.items after rs ≡ outcome schema.now rows.old.items bad (fields_of line.now ∷ rs)) }
     ensures memory { IfErr result (λ e. e ≡ fault.Memory) }
 {
     if bad.is_some() {

@@ -2,8 +2,8 @@
 ghost use Rattle.std.specs.Prelude.{◌≡◌, ◌↔◌, IfOk, IsErr, OnErr, Contains, Some, length, min};
 ghost use Rattle.std.specs.Io.{ReadsAtMost};
 ghost use Rattle.std.specs.Io.KnownBytes.{ReadConsumes};
-ghost use Rattle.fault_count.specs.Causes.{HasCause};
-ghost use Rattle.row_source.specs.Source.{next};
+ghost use Rattle.fault_count.specs.Causes.{HasCause, next};
+ghost use Rattle.fault_count.specs.Streams.{ByteSight};
 
 use fault_count::raised;
 use ring128::Memory;
@@ -15,26 +15,21 @@ use std::marker::Model;
 #[derive(Clone, Copy, Debug, PartialEq, Eq)]
 pub struct Failed;
 
-/// A source of bytes. It may tell the bytes that it has left, and counts its faults.
+/// A source of bytes. It may report the bytes that it has left, and counts its faults.
 pub trait Source {
-    ghost use Rattle.std.specs.Prelude.{List, ℕ, Option};
-
-    // The bytes left, where it tells them.
-    ghost left: { Self → Option (List ℕ) };
-
-    // How many reads have failed.
-    ghost fault_count: { Self → ℕ };
+    // What contracts see of a source: the bytes left, where it reports them, and how many reads have failed.
+    ghost sight: { ByteSight Self };
 
     /// How many reads have failed; the count stops at 2^64 - 1.
     fn faults(&self) -> u64
-        ensures { result ≡ fault_count self.now };
+        ensures { result ≡ sight.faults self.now };
 
-    /// Moves some of the bytes left to the front of the buffer and says how many; or fails, raises its
-    /// count, and has taken nothing. 0 for a buffer that isn't empty is the end of the input.
+    /// Moves some of the bytes left to the start of the buffer and says how many; or fails, raises its
+    /// count, and has taken nothing. 0 for a buffer that is not empty is the end of the input.
     fn read(&mut self, buffer: &mut [u8]) -> Result<usize, Failed>
         ensures bound { ReadsAtMost result buffer.new }
-        ensures bytes { ReadConsumes (left self.old) (left self.new) result buffer.new }
-        ensures cause { HasCause (fault_count self.old) (fault_count self.new) result };
+        ensures bytes { ReadConsumes (sight.bytes self.old) (sight.bytes self.new) result buffer.new }
+        ensures cause { HasCause (sight.faults self.old) (sight.faults self.new) result };
 }
 
 /// Bytes in memory, some of whose reads fail.
@@ -74,9 +69,7 @@ impl MemorySource {
 }
 
 impl Source for MemorySource {
-    ghost left = { λ s. Some s.left };
-
-    ghost fault_count = { λ s. s.faults };
+    ghost sight = { record { bytes = λ s. Some s.left; faults = λ s. s.faults } };
 
     fn faults(&self) -> u64 {
         self.faults
@@ -143,9 +136,7 @@ impl SureSource {
 }
 
 impl Source for SureSource {
-    ghost left = { λ s. Some s };
-
-    ghost fault_count = { λ _. 0 };
+    ghost sight = { record { bytes = λ s. Some s; faults = λ _. 0 } };
 
     fn faults(&self) -> u64 {
         0

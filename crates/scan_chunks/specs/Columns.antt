@@ -7,7 +7,7 @@ use Rattle.scan_chunks.specs.Shelf.{Held}
 abbrev pub column_at : List Column → ℕ → Column
 column_at columns k = slice_index_or columns k (record { width = 0; first = []; second = [] })
 
--- so many rows in these columns, the last of which is the value's
+-- `rows` rows in these columns, the last of which is the value's
 abbrev pub held_of : ℕ → ℕ → List Column → Held
 held_of rows start columns = record {
   rows = rows;

@@ -19,7 +19,8 @@ pub record AreParts (column : ℕ) (parts : List Held) (whole : Held) : Type 0 w
 -- and has whole chunks where rows follow
 abbrev pub GoOn : ℕ → List Held → Type 0
 GoOn start [] = Unit {0}
-GoOn start (h ∷ hs) = (h.start ≡ start) × (0 < total (λ (k : Held). k.rows) hs → h.rows ≡ 64 * chunks_of h.rows) × GoOn (start + chunks_of h.rows) hs
+GoOn start (h ∷ hs) = (h.start ≡ start) × (0 < total (λ (k : Held). k.rows) hs → h.rows ≡ 64 * chunks_of h.rows)
+    × GoOn (start + chunks_of h.rows) hs
 
 -- the scans of the parts, one after another, are the scan of the whole
 abbrev pub PartsScanAsWhole : Type 0
@@ -28,5 +29,6 @@ PartsScanAsWhole = (column : ℕ) (zeros ones : List ℕ) (parts : List Held) (w
 
 -- and so are their visits
 abbrev pub PartsAreVisitedAsWhole : Type 0
-PartsAreVisitedAsWhole = (column : ℕ) (parts : List Held) (whole : Held) → whole.rows ≡ total (λ (h : Held). h.rows) parts → GoOn whole.start parts
+PartsAreVisitedAsWhole = (column : ℕ) (parts : List Held) (whole : Held) → whole.rows ≡ total (λ (h : Held). h.rows) parts
+    → GoOn whole.start parts
     → flat_map (λ (h : Held). visits_of h column) parts ≡ visits_of whole column

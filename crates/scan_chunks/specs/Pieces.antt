@@ -14,6 +14,6 @@ row_of width i cells = take width (drop (i * width) cells)
 abbrev pub chunk_of : ℕ → ℕ → List ℕ → List ℕ
 chunk_of width c cells = take (64 * width) (drop (64 * width * c) cells)
 
--- how many chunks so many rows fill
+-- how many chunks `n` rows fill
 abbrev pub chunks_of : ℕ → ℕ
 chunks_of n = (n + 63) / 64

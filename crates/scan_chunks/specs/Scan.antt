@@ -19,6 +19,6 @@ scan_of h column zero one = listed h.rows (row_number zero one (h.width column) 
 abbrev pub visits_of : Held → ℕ → List Visit
 visits_of h column = map (λ c. record { column = column; chunk = h.start + c }) (range_with_len 0 (chunks_of h.rows))
 
--- the visits after want of memory: the old ones, and the first of those that were to come
+-- the visits of a call that ran out of memory: the old ones, and the first of those that were to come
 abbrev pub VisitsPart : List Visit → List Visit → List Visit → Type 0
 VisitsPart old new wanted = (n : ℕ) × (new ≡ old ++ take n wanted)

@@ -11,8 +11,8 @@ use ring128::{Memory, Words};
 use std::alloc::Global;
 use std::thread::{Threads, join_mut};
 
-/// The scans of some shelves, one after another in the result, each in a thread of its own where one can be made. Each chunk of the column of each shelf is visited once, rising. The only
-/// error is want of memory; each shelf's visits are then the first of its own.
+/// The scans of some shelves, one after another in the result, each in a thread of its own where one can be made. Each chunk of the
+/// column of each shelf is visited once, rising. The only error is out of memory; each shelf's visits are then the first of its own.
 pub fn scan_many<R: Threads + Sync, S: Shelf + Send>(
     rt: &R,
     alloc: Global,
@@ -26,7 +26,8 @@ pub fn scan_many<R: Threads + Sync, S: Shelf + Send>(
     ensures held { AllZip (λ s t. S.held t ≡ S.held s) shelves.old shelves.new }
     ensures numbers { IfOk result (λ w. w ≡ flat_map (λ s. scan_of (S.held s) column tables.now.zero tables.now.one) shelves.old) }
     ensures visits { OnOk result (AllZip (λ s t. S.visited t ≡ S.visited s ++ visits_of (S.held s) column) shelves.old shelves.new) }
-    ensures part { OnErr result (AllZip (λ s t. VisitsPart (S.visited s) (S.visited t) (visits_of (S.held s) column)) shelves.old shelves.new) }
+    ensures part { OnErr result (AllZip (λ s t. VisitsPart (S.visited s) (S.visited t) (visits_of (S.held s) column))
+        shelves.old shelves.new) }
 {
     scan_halves(rt, alloc, column, tables, shelves)
 }
@@ -102,7 +103,8 @@ fn scan_in_turn<S: Shelf>(
     ensures held { AllZip (λ s t. S.held t ≡ S.held s) shelves.old shelves.new }
     ensures numbers { IfOk result (λ w. w ≡ flat_map (λ s. scan_of (S.held s) column tables.now.zero tables.now.one) shelves.old) }
     ensures visits { OnOk result (AllZip (λ s t. S.visited t ≡ S.visited s ++ visits_of (S.held s) column) shelves.old shelves.new) }
-    ensures part { OnErr result (AllZip (λ s t. VisitsPart (S.visited s) (S.visited t) (visits_of (S.held s) column)) shelves.old shelves.new) }
+    ensures part { OnErr result (AllZip (λ s t. VisitsPart (S.visited s) (S.visited t) (visits_of (S.held s) column))
+        shelves.old shelves.new) }
 {
     let mut numbers = Vec::new(alloc);
     for i in 0..shelves.len() {

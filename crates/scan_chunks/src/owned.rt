@@ -17,7 +17,7 @@ pub struct OwnedShelf {
 }
 
 impl OwnedShelf {
-    /// A shelf of so many rows, without visits yet. The last column is the value's. It takes no memory.
+    /// A shelf of `rows` rows, without visits yet. The last column is the value's. It takes no memory.
     pub fn new(alloc: Global, rows: u64, start: u32, columns: Vec<Column>) -> OwnedShelf
         requires some { 0 < length columns.items }
         requires shelf { IsShelf (held_of rows start columns.items) }
@@ -94,8 +94,10 @@ impl Rows {
         requires column { column ≤ length self.now.columns.items - 1 }
         requires from { self.now.start ≤ c }
         requires below { c < self.now.start + chunks_of self.now.rows }
-        ensures first { let at = column_at self.now.columns.items column in result.first.now ≡ chunk_of at.width (c - self.now.start) at.first }
-        ensures second { let at = column_at self.now.columns.items column in result.second.now ≡ chunk_of at.width (c - self.now.start) at.second }
+        ensures first { let at = column_at self.now.columns.items column in
+            result.first.now ≡ chunk_of at.width (c - self.now.start) at.first }
+        ensures second { let at = column_at self.now.columns.items column in
+            result.second.now ≡ chunk_of at.width (c - self.now.start) at.second }
     {
         let chunk = u64::from(c - self.start);
         let column = &self.columns[column as usize];
@@ -106,7 +108,7 @@ impl Rows {
     }
 }
 
-// A chunk of the cells of so many rows, counted from 0.
+// A chunk of the cells of `rows` rows, counted from 0.
 fn part(cells: &[u128], chunk: u64, rows: u64, width: u64) -> &[u128]
     requires long { length cells.now ≡ rows * width }
     requires there { chunk < chunks_of rows }

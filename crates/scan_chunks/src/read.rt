@@ -7,7 +7,7 @@ use ring128::{Memory, Words};
 use std::alloc::Global;
 
 /// The pairs of a column, row after row. Each chunk of the column is visited once, rising. The only error
-/// is want of memory; the visits are then the first of these.
+/// is out of memory; the visits are then the first of these.
 pub fn read_column<S: Shelf>(alloc: Global, shelf: &mut S, column: u8) -> Result<PairList, Memory>
     requires column { column ≤ (S.held shelf.old).columns }
     ensures held { S.held shelf.new ≡ S.held shelf.old }

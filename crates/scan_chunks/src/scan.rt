@@ -9,7 +9,7 @@ use ring128::{Memory, Words, add, dot};
 use std::alloc::Global;
 
 /// A number a row: the dot product of the row's firsts in a column with the table `zero`, and that of its seconds with
-/// the table `one`. Each chunk of the column is visited once, rising. The only error is want of memory; the visits are
+/// the table `one`. Each chunk of the column is visited once, rising. The only error is out of memory; the visits are
 /// then the first of these.
 pub fn scan_one<S: Shelf>(
     alloc: Global,
@@ -41,7 +41,8 @@ pub(crate) fn append_scan<S: Shelf>(
     requires zero { length tables.now.zero ≡ (S.held shelf.old).width column }
     requires one { length tables.now.one ≡ (S.held shelf.old).width column }
     ensures held { S.held shelf.new ≡ S.held shelf.old }
-    ensures numbers { OnOk result (numbers.new.items ≡ numbers.old.items ++ scan_of (S.held shelf.old) column tables.now.zero tables.now.one) }
+    ensures numbers { OnOk result (numbers.new.items
+        ≡ numbers.old.items ++ scan_of (S.held shelf.old) column tables.now.zero tables.now.one) }
     ensures visits { OnOk result (S.visited shelf.new ≡ S.visited shelf.old ++ visits_of (S.held shelf.old) column) }
     ensures part { OnErr result (VisitsPart (S.visited shelf.old) (S.visited shelf.new) (visits_of (S.held shelf.old) column)) }
 {
@@ -64,7 +65,8 @@ fn scan_chunk(numbers: &mut Vec<u128>, lent: &Lent, count: usize, width: usize, 
     requires first { length lent.now.first.now ≡ count * width }
     requires second { length lent.now.second.now ≡ count * width }
     requires room { vec_len numbers.old + count ≤ vec_capacity numbers.old }
-    ensures numbers { numbers.new.items ≡ numbers.old.items ++ listed count (row_number tables.now.zero tables.now.one width lent.now.first.now lent.now.second.now) }
+    ensures numbers { numbers.new.items
+        ≡ numbers.old.items ++ listed count (row_number tables.now.zero tables.now.one width lent.now.first.now lent.now.second.now) }
     ensures length { vec_len numbers.new ≡ vec_len numbers.old + count }
     ensures room { vec_capacity numbers.new ≡ vec_capacity numbers.old }
 {
@@ -77,7 +79,7 @@ fn scan_chunk(numbers: &mut Vec<u128>, lent: &Lent, count: usize, width: usize, 
     }
 }
 
-/// Row i of so many rows of a column of this width.
+/// Row i of `count` rows of a column of this width.
 pub fn row(cells: &[u128], i: usize, count: usize, width: usize) -> &[u128]
     requires long { length cells.now ≡ count * width }
     requires there { i < count }

@@ -55,6 +55,8 @@ pub trait Shelf {
             (λ v. (held v ≡ held self.old)
             × OnOk result (visited v ≡ visited self.old ++ record { column = column; chunk = c } ∷ [])
             × OnErr result (visited v ≡ visited self.old))) }
-        ensures first { IfOk result (λ l. l.first.now ≡ chunk_of ((held self.old).width column) (c - (held self.old).start) ((held self.old).pieces.first column)) }
-        ensures second { IfOk result (λ l. l.second.now ≡ chunk_of ((held self.old).width column) (c - (held self.old).start) ((held self.old).pieces.second column)) };
+        ensures first { IfOk result (λ l. l.first.now
+            ≡ chunk_of ((held self.old).width column) (c - (held self.old).start) ((held self.old).pieces.first column)) }
+        ensures second { IfOk result (λ l. l.second.now
+            ≡ chunk_of ((held self.old).width column) (c - (held self.old).start) ((held self.old).pieces.second column)) };
 }

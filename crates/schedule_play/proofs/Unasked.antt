@@ -3,7 +3,7 @@ use Rattle.std.proofs.Common.{◌≡◌, ◌∙◌, refl, sym, ap, subst, ℕ, �
 use Rattle.std.specs.List.{flat_map, range_with_len}
 use Rattle.server_rounds.specs.declared.opened.OpenedPair.{OpenedPair}
 use Rattle.table_schema.specs.declared.widths.Widths.{Widths}
-use Rattle.wire_line.specs.Carried.{NonePasses, honest_none, went_none}
+use Rattle.wire_line.specs.Carried.{honest_none, went_none}
 use Rattle.wire_line.specs.Messages.{Went}
 use Rattle.wire_line.specs.declared.message.Message.{Message}
 use Rattle.waldo_core.specs.Answers.{Carries, IsPlain, IsQuiet}
@@ -14,16 +14,17 @@ use Rattle.waldo_core.specs.declared.events.Event.TheVariants as events
 use Rattle.waldo_words.specs.declared.schedule.Step.{Step}
 use Rattle.schedule_play.specs.Appended.{stage_with_rows}
 use Rattle.schedule_play.specs.History.{AreHonest, CarriesOf, Done, IsCarried, is_answer, nothing_opened, sent_by}
-use Rattle.schedule_play.specs.Leads.{Advances, IsStill, Leads}
+use Rattle.schedule_play.specs.Leads.{Advances, Leads}
 use Rattle.schedule_play.specs.Plain.{ArePlain, IsPlainOf}
 use Rattle.schedule_play.specs.Stages.{Stage, actor_in, event_of, first_stage, next_stage, step_of, with_reply}
 use Rattle.schedule_play.specs.Tasks.{Setting, append_steps}
-use Rattle.schedule_play.specs.Wires.{WiresWent}
+use Rattle.schedule_play.specs.Wires.{WiresWent, Unaltered}
 use Rattle.schedule_play.specs.declared.style.Style.TheVariants.{Queries}
 use Rattle.schedule_play.proofs.AppendedRows.{Goes, all_entries, all_go, length-seeded_rows, other_actors, other_rounds, with_rows}
 use Rattle.schedule_play.proofs.Cases.{event_quiet}
 use Rattle.schedule_play.proofs.RowNumbers.{numbers_are}
 use Rattle.schedule_play.proofs.Single.{entry}
+use Rattle.wire_line.specs.Sights.{Sight, NonePasses}
 
 -- such a step, and all of some
 abbrev unasked : Step → Done
@@ -93,12 +94,12 @@ with_rows_is s =
     ap (λ (n : ℕ). with_rows (all_entries s) n other_actors (0 ∷ other_rounds)) (sym (length-seeded_rows s.master 0 s.rows))
     ∙ ap (λ (l : List ℕ). record first_stage { core = record (core_after (all_entries s)) { zero = l; one = l; two = l } }) (numbers_are (length (all_entries s)))
 
-module _ {W : Type 0} (told : W → Option (List Message)) (alterations : W → ℕ) (passes : W → List Message → W → Type 0) (none : NonePasses passes) where
-  wires_unasked : (xs : List Step) (b : ℕ) (vs : List W) → WiresWent told alterations passes (all_unasked xs) b vs vs
+module _ {W : Type 0} (sight : Sight W) (none : NonePasses sight) where
+  wires_unasked : (xs : List Step) (b : ℕ) (vs : List W) → WiresWent sight (all_unasked xs) b vs vs
   wires_unasked xs b [] = tt
   wires_unasked xs b (v ∷ vs) = (
     record {
-      went = subst (λ (ms : List Message). Went told alterations passes v ms v) (sym (nothing_sent b xs)) (went_none told alterations passes v v refl refl (none v));
+      went = subst (λ (ms : List Message). Went sight v ms v) (sym (nothing_sent b xs)) (went_none sight v v refl refl (none v));
       still = λ _. refl;
     },
     wires_unasked xs (b + 1) vs,
@@ -106,7 +107,7 @@ module _ {W : Type 0} (told : W → Option (List Message)) (alterations : W → 
 
   -- the steps of all rows were done
   pub rows_lead : (w : Widths) (s : Setting) (stage end : Stage) (vs : List W) → stage ≡ first_stage → end ≡ stage_with_rows s
-      → Leads told alterations passes w s Queries stage vs (flat_map (λ (row : ℕ). append_steps) (range_with_len 0 (length s.rows))) end vs
+      → Leads sight w s Queries stage vs (flat_map (λ (row : ℕ). append_steps) (range_with_len 0 (length s.rows))) end vs
   rows_lead w s stage end vs first last =
       let xs = flat_map (λ (row : ℕ). append_steps) (range_with_len 0 (length s.rows)) in
       let at_end : Goes s first_stage xs end = subst (λ (a : Stage). Goes s first_stage xs a) (with_rows_is s ∙ sym last) (all_go s) in
@@ -114,7 +115,7 @@ module _ {W : Type 0} (told : W → Option (List Message)) (alterations : W → 
       record {
         history = all_unasked xs;
         sent = wires_unasked xs 0 vs;
-        honest = honest (IsStill alterations vs vs) xs;
+        honest = honest (Unaltered sight vs vs) xs;
         plain = plain w s xs stage end goes;
         advances = advances w s xs stage end goes;
         calm = λ still. ap (λ (a : Stage). a.altered) last ∙ sym (ap (λ (a : Stage). a.altered) first);

@@ -1,17 +1,16 @@
 -- What some steps did from one stage on: all of them, up to another stage, or those before the first that was not done.
-use Rattle.std.specs.Prelude.{ℕ, ◌≡◌, ◌+◌, ◌<◌, IsSomeAnd, Option, List, [], ◌∷◌, length}
+use Rattle.std.specs.Prelude.{ℕ, ◌≡◌, ◌+◌, ◌<◌, IsSomeAnd, List, [], ◌∷◌, length}
 use Rattle.table_schema.specs.declared.widths.Widths.{Widths}
-use Rattle.wire_line.specs.declared.message.Message.{Message}
 use Rattle.waldo_words.specs.declared.schedule.Step.{Step}
 use Rattle.schedule_play.specs.History.{AreHonest, Breaks, Done, IsCarried, IsHistory}
 use Rattle.schedule_play.specs.Plain.{ArePlain}
 use Rattle.schedule_play.specs.Stages.{Stage, next_stage}
 use Rattle.schedule_play.specs.Tasks.{Setting}
-use Rattle.schedule_play.specs.Wires.{WiresWent}
-use Rattle.wire_line.specs.Lists.{RoseAt}
+use Rattle.schedule_play.specs.Wires.{Carried, Unaltered}
 use Rattle.schedule_play.specs.declared.play.PlayFault.{PlayFault}
 use Rattle.schedule_play.specs.declared.play.PlayFault.TheVariants.{NotAllowed, Memory}
 use Rattle.schedule_play.specs.declared.style.Style.{Style}
+use Rattle.wire_line.specs.Sights.{Sight}
 
 -- all steps were done, with their messages, and they lead from one stage to another
 abbrev pub Advances : Widths → Setting → Style → Stage → List Step → List Done → Stage → Type 0
@@ -21,19 +20,15 @@ Advances w s style stage (x ∷ xs) [] end = ⊥
 Advances w s style stage (x ∷ xs) (d ∷ ds) end =
     (d.step ≡ x) × IsCarried w s stage d × IsSomeAnd (next_stage s style stage x d.pair) (λ (next : Stage). Advances w s style next xs ds end)
 
--- the wires of actors whose count of alterations did not rise
-abbrev pub IsStill : {W : Type 0} → (W → ℕ) → List W → List W → ℕ → Type 0
-IsStill alterations before after actor = ¬ RoseAt alterations actor before after
-
 -- the steps were done over these wires; an unaltered one changed no message; where none was altered, no check refused a pair
-pub record Leads {W : Type 0} (told : W → Option (List Message)) (alterations : W → ℕ) (passes : W → List Message → W → Type 0)
+pub record Leads {W : Type 0} (sight : Sight W)
     (w : Widths) (s : Setting) (style : Style) (stage : Stage) (before : List W) (xs : List Step) (end : Stage) (after : List W) : Type 0 where
   pub history : List Done
-  pub sent : WiresWent told alterations passes history 0 before after
-  pub honest : AreHonest (IsStill alterations before after) history
+  pub sent : Carried sight before after history
+  pub honest : AreHonest (Unaltered sight before after) history
   pub plain : ArePlain s style stage history
   pub advances : Advances w s style stage xs history end
-  pub calm : ((actor : ℕ) → IsStill alterations before after actor) → end.altered ≡ stage.altered
+  pub calm : ((actor : ℕ) → Unaltered sight before after actor) → end.altered ≡ stage.altered
 
 -- the first step without a case, by its number, where the first one has number t; or some first steps, and want of memory
 abbrev pub EndsAt : Widths → Setting → Style → ℕ → Stage → List Step → List Done → PlayFault → Type 0
@@ -41,10 +36,10 @@ EndsAt w s style t stage xs history (NotAllowed index) = IsHistory w s style sta
 EndsAt w s style t stage xs history Memory = Breaks w s style stage xs history
 
 -- not all of the steps were done
-pub record Stops {W : Type 0} (told : W → Option (List Message)) (alterations : W → ℕ) (passes : W → List Message → W → Type 0)
+pub record Stops {W : Type 0} (sight : Sight W)
     (w : Widths) (s : Setting) (style : Style) (t : ℕ) (stage : Stage) (before : List W) (xs : List Step) (after : List W) (fault : PlayFault) : Type 0 where
   pub history : List Done
-  pub sent : WiresWent told alterations passes history 0 before after
-  pub honest : AreHonest (IsStill alterations before after) history
+  pub sent : Carried sight before after history
+  pub honest : AreHonest (Unaltered sight before after) history
   pub plain : ArePlain s style stage history
   pub ends : EndsAt w s style t stage xs history fault

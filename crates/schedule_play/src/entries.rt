@@ -11,7 +11,7 @@ use std::alloc::Global;
 use std::thread::{Threads, for_each_mut};
 use table_schema::Row;
 
-/// The rows with their seeds, which so many workers derive: row i has the master seed's for 1, 0 and i. The only error is out
+/// The rows with their seeds, which `workers` threads derive: row i has the master seed's for 1, 0 and i. The only error is out
 /// of memory.
 pub(crate) fn seeded<R: Threads + Sync>(
     rt: &R,

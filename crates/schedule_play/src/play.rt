@@ -5,9 +5,8 @@ ghost use Rattle.schedule_play.specs.Leads.{Leads, Stops};
 ghost use Rattle.schedule_play.specs.Plays.{Plays, seen};
 ghost use Rattle.schedule_play.specs.Ready.{IsReady, stage_of};
 ghost use Rattle.schedule_play.specs.Tasks.{IsSetting, ask_steps, asking, scheduled};
-ghost use Rattle.schedule_play.specs.Wires.{WiresWent};
-ghost use Rattle.wire_line.specs.Lists.{RoseAt};
 ghost use Rattle.schedule_play.specs.declared.style.Style.TheVariants as styles;
+ghost use Rattle.schedule_play.specs.Wires.{Carried, Unaltered};
 
 use crate::progress::Progress;
 use crate::setting::Setting;
@@ -58,8 +57,10 @@ fn ask_queries<R: Threads + Sync, W: Wire>(
     requires few { progress.old.done < 2 ^ 39 }
     requires wires { length wires.old.items ≡ 16 }
     ensures wires { length wires.new.items ≡ 16 }
-    ensures leads { OnOk result (Leads W.told W.alterations W.passes setting.now.widths (seen setting.now) styles.Queries (stage_of progress.old) wires.old.items (flat_map ask_steps (range_with_len 0 (length setting.now.queries.now))) (stage_of progress.new) wires.new.items) }
-    ensures stops { IfErr result (Stops W.told W.alterations W.passes setting.now.widths (seen setting.now) styles.Queries progress.old.done (stage_of progress.old) wires.old.items (flat_map ask_steps (range_with_len 0 (length setting.now.queries.now))) wires.new.items) }
+    ensures leads { OnOk result (Leads W.sight setting.now.widths (seen setting.now) styles.Queries (stage_of progress.old) wires.old.items
+        (flat_map ask_steps (range_with_len 0 (length setting.now.queries.now))) (stage_of progress.new) wires.new.items) }
+    ensures stops { IfErr result (Stops W.sight setting.now.widths (seen setting.now) styles.Queries progress.old.done
+        (stage_of progress.old) wires.old.items (flat_map ask_steps (range_with_len 0 (length setting.now.queries.now))) wires.new.items) }
 {
     for query in 0..setting.queries.len() {
         let steps = [
@@ -90,7 +91,8 @@ pub fn ask<R: Threads + Sync, W: Wire>(
     requires few { setting.now.workers ≤ 16 }
     requires wires { length wires.old.items ≡ 16 }
     ensures wires { length wires.new.items ≡ 16 }
-    ensures plays { Plays setting.now.widths (asking (seen setting.now)) (λ history. WiresWent W.told W.alterations W.passes history 0 wires.old.items wires.new.items) (λ actor. ¬ RoseAt W.alterations actor wires.old.items wires.new.items) result }
+    ensures plays { Plays setting.now.widths (asking (seen setting.now)) (Carried W.sight wires.old.items wires.new.items)
+        (Unaltered W.sight wires.old.items wires.new.items) result }
 {
     let mut progress = Progress::new(rt, alloc, setting)?;
     progress.append_rows(rt, alloc, setting)?;
@@ -112,7 +114,8 @@ pub fn replay<R: Threads + Sync, W: Wire>(
     requires few { setting.now.workers ≤ 16 }
     requires wires { length wires.old.items ≡ 16 }
     ensures wires { length wires.new.items ≡ 16 }
-    ensures plays { Plays setting.now.widths (scheduled (seen setting.now) schedule.now) (λ history. WiresWent W.told W.alterations W.passes history 0 wires.old.items wires.new.items) (λ actor. ¬ RoseAt W.alterations actor wires.old.items wires.new.items) result }
+    ensures plays { Plays setting.now.widths (scheduled (seen setting.now) schedule.now)
+        (Carried W.sight wires.old.items wires.new.items) (Unaltered W.sight wires.old.items wires.new.items) result }
 {
     let mut progress = Progress::new(rt, alloc, setting)?;
     progress.steps(rt, alloc, setting, Style::Rounds, schedule, wires)?;

@@ -149,7 +149,8 @@ impl Progress {
         requires few { self.old.done < 2 ^ 40 }
         requires rounds { (actor : ℕ) → slice_index_or self.old.rounds actor 0 ≤ self.old.done }
         requires drawn { self.old.drawn ≤ self.old.done }
-        ensures stage { OnOk result (stage_of self.new ≡ with_reply (seen setting.now) style (stage_of self.old) step (self.old.machine.core, reply)) }
+        ensures stage { OnOk result (stage_of self.new
+            ≡ with_reply (seen setting.now) style (stage_of self.old) step (self.old.machine.core, reply)) }
         ensures machine { self.new.machine ≡ self.old.machine }
         ensures rounds { OnOk result ((actor : ℕ) → slice_index_or self.new.rounds actor 0 ≤ self.new.done) }
         ensures drawn { OnOk result (self.new.drawn ≡ self.old.drawn + (if is_drawn reply then 1 else 0)) }
@@ -171,7 +172,7 @@ impl Progress {
         Ok(())
     }
 
-    /// Does a step. For want of memory the first messages of an answer may have been carried.
+    /// Does a step. Out of memory, the first messages of an answer may have been carried.
     fn step<R: Threads + Sync, W: Wire>(
         &mut self,
         rt: &R,
@@ -188,8 +189,10 @@ impl Progress {
         ensures wires { length wires.new.items ≡ 16 }
         ensures ready { OnOk result (IsReady setting.now.widths (seen setting.now) self.new) }
         ensures done { OnOk result (self.new.done ≡ self.old.done + 1) }
-        ensures leads { OnOk result (Leads W.told W.alterations W.passes setting.now.widths (seen setting.now) style (stage_of self.old) wires.old.items (step ∷ []) (stage_of self.new) wires.new.items) }
-        ensures stops { IfErr result (Stops W.told W.alterations W.passes setting.now.widths (seen setting.now) style self.old.done (stage_of self.old) wires.old.items (step ∷ []) wires.new.items) }
+        ensures leads { OnOk result (Leads W.sight setting.now.widths (seen setting.now) style (stage_of self.old) wires.old.items
+            (step ∷ []) (stage_of self.new) wires.new.items) }
+        ensures stops { IfErr result (Stops W.sight setting.now.widths (seen setting.now) style self.old.done
+            (stage_of self.old) wires.old.items (step ∷ []) wires.new.items) }
     {
         let refused = PlayFault::NotAllowed { index: self.done };
         let actor = actor_in(step);
@@ -227,8 +230,10 @@ impl Progress {
         ensures wires { length wires.new.items ≡ 16 }
         ensures ready { OnOk result (IsReady setting.now.widths (seen setting.now) self.new) }
         ensures done { OnOk result (self.new.done ≡ self.old.done + length steps.now) }
-        ensures leads { OnOk result (Leads W.told W.alterations W.passes setting.now.widths (seen setting.now) style (stage_of self.old) wires.old.items steps.now (stage_of self.new) wires.new.items) }
-        ensures stops { IfErr result (Stops W.told W.alterations W.passes setting.now.widths (seen setting.now) style self.old.done (stage_of self.old) wires.old.items steps.now wires.new.items) }
+        ensures leads { OnOk result (Leads W.sight setting.now.widths (seen setting.now) style (stage_of self.old) wires.old.items
+            steps.now (stage_of self.new) wires.new.items) }
+        ensures stops { IfErr result (Stops W.sight setting.now.widths (seen setting.now) style self.old.done
+            (stage_of self.old) wires.old.items steps.now wires.new.items) }
     {
         for step in steps {
             self.step(rt, alloc, setting, style, *step, wires)?;

@@ -69,7 +69,7 @@ fn in_rounds(style: Style, line: Line) -> Option<Line>
     }
 }
 
-/// The line of a reply, if it has one. The actor has had so many rounds.
+/// The line of a reply, if it has one. The actor has had `round` rounds.
 pub(crate) fn line_of(
     setting: &Setting<'_>,
     style: Style,

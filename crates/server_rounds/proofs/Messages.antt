@@ -7,6 +7,7 @@ use Rattle.transcript.specs.Steps.{after}
 use Rattle.server_rounds.specs.Groups.{by_server, from_of, to_of, first_of, second_of, Pairs, IsGroup, Received, AreReshared}
 use Rattle.server_rounds.specs.declared.way.Way.{Way}
 use Rattle.server_rounds.specs.declared.way.Way.TheVariants.{Around}
+use Rattle.wire_line.specs.Sights.{Sight}
 
 -- message k of a step
 abbrev pub going : Way → ℕ → List ℕ → List ℕ → Message
@@ -86,7 +87,7 @@ some_matched None x P Q e p = absurd cc
 some_matched (Some y) x P Q e p = let same : y ≡ x = cc in subst Q same p
 
 -- no messages more
-pub went_just : {S : Type 0} (told : S → Option (List Message)) (alterations : S → ℕ) (passes : S → List Message → S → Type 0) (s t : S) (ms ns : List Message)
-    → ns ≡ [] → Went told alterations passes s (ms ++ ns) t → Went told alterations passes s ms t
-went_just told alterations passes s t ms ns none went =
-    subst (λ (l : List Message). Went told alterations passes s l t) (ap (λ (l : List Message). ms ++ l) none ∙ append-nil ms) went
+pub went_just : {S : Type 0} (sight : Sight S) (s t : S) (ms ns : List Message)
+    → ns ≡ [] → Went sight s (ms ++ ns) t → Went sight s ms t
+went_just sight s t ms ns none went =
+    subst (λ (l : List Message). Went sight s l t) (ap (λ (l : List Message). ms ++ l) none ∙ append-nil ms) went

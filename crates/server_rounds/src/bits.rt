@@ -48,7 +48,7 @@ impl Bits {
         ensures plan { IfOk result (λ p. p.plan ≡ self.plan) }
         ensures run { IfOk result (λ p. p.run ≡ self.run) }
         ensures j { IfOk result (λ p. p.j ≡ self.j) }
-        ensures messages { (ms : List Message) × Went W.told W.alterations W.passes wire.old ms wire.new
+        ensures messages { (ms : List Message) × Went W.sight wire.old ms wire.new
             × MatchOption self.chain (ms ≡ [])
             (λ chain. IsGroup Way.Around (products_of self.plan self.run (views_of ready.now.keys) self.j chain self.bits) ms)
             × IfOk result (λ p. MatchOption self.chain (p.chain ≡ self.bits) (λ _. AreReshared p.chain ms)) }

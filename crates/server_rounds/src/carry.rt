@@ -34,9 +34,9 @@ impl Trio {
 
 // Carries words, and gives those that were received.
 fn carry<W: Wire>(wire: &mut W, sender: Peer, receiver: Peer, words: Words) -> Result<Words, Memory>
-    ensures carried { IfOk result (λ got. Went W.told W.alterations W.passes wire.old (message_of sender receiver words got ∷ []) wire.new) }
+    ensures carried { IfOk result (λ got. Went W.sight wire.old (message_of sender receiver words got ∷ []) wire.new) }
     ensures long { IfOk result (λ got. length got ≡ length words) }
-    ensures kept { OnErr result (Went W.told W.alterations W.passes wire.old [] wire.new) }
+    ensures kept { OnErr result (Went W.sight wire.old [] wire.new) }
 {
     let mut carried = words.into_vec();
     wire.carry(sender, receiver, carried.as_mut_slice())?;
@@ -46,7 +46,7 @@ fn carry<W: Wire>(wire: &mut W, sender: Peer, receiver: Peer, words: Words) -> R
 /// Carries the three messages of a step, and gives what was received.
 pub fn carry_three<W: Wire>(wire: &mut W, way: Way, words: Trio) -> Result<Trio, Memory>
     ensures long { IfOk result (λ got. AsLong got.zero got.one got.two words.zero words.one words.two) }
-    ensures messages { (ms : List Message) × Went W.told W.alterations W.passes wire.old ms wire.new
+    ensures messages { (ms : List Message) × Went W.sight wire.old ms wire.new
         × IsGroup way (by_server words.zero words.one words.two) ms
         × IfOk result (λ got. Received ms got.zero got.one got.two) }
 {

@@ -77,7 +77,7 @@ pub fn reshare<W: Wire>(alloc: Global, wire: &mut W, words: Trio) -> Result<Held
     requires one { length words.one ≡ length words.zero }
     requires two { length words.two ≡ length words.zero }
     ensures long { IfOk result (λ held. AreLong (length words.zero) held) }
-    ensures messages { (ms : List Message) × Went W.told W.alterations W.passes wire.old ms wire.new
+    ensures messages { (ms : List Message) × Went W.sight wire.old ms wire.new
         × IsGroup Way.Around (by_server words.zero words.one words.two) ms
         × IfOk result (λ held. AreReshared held ms) }
 {

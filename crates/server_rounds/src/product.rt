@@ -61,7 +61,7 @@ impl Product {
         ensures chain { IfOk result (λ b. b.chain ≡ Some self.chain) }
         ensures messages { let pieces = by_server (pieces_of (map S.held shelves.old.zero.items))
             (pieces_of (map S.held shelves.old.one.items)) (pieces_of (map S.held shelves.old.two.items)) in
-            (ms : List Message) × Went W.told W.alterations W.passes wire.old ms wire.new
+            (ms : List Message) × Went W.sight wire.old ms wire.new
             × IsGroup Way.Around (bits_of self.plan self.run (views_of ready.now.keys) pieces (self.j + 1)) ms
             × IfOk result (λ b. AreReshared b.bits ms) }
     {
@@ -116,7 +116,7 @@ impl Product {
         ensures visits { AllVisited S.held S.visited (opened_columns self.plan.shape.aggregate self.plan.widths.columns) shelves.old shelves.new result }
         ensures messages { let pieces = by_server (pieces_of (map S.held shelves.old.zero.items))
             (pieces_of (map S.held shelves.old.one.items)) (pieces_of (map S.held shelves.old.two.items)) in
-            (ms : List Message) × Went W.told W.alterations W.passes wire.old ms wire.new
+            (ms : List Message) × Went W.sight wire.old ms wire.new
             × IsGroup Way.ToClient (openings_of self.plan self.run (views_of ready.now.keys) pieces self.chain) ms
             × IfOk result (λ opened. IsOpened ms opened.total) }
     {

@@ -52,7 +52,7 @@ impl Ready {
     ) -> Result<Ready, Memory>
         requires { rows ≤ 65536 }
         ensures plan { IfOk result (λ ready. ready.plan ≡ sizes_for keys.now rows) }
-        ensures messages { (ms : List Message) × Went W.told W.alterations W.passes wire.old ms wire.new
+        ensures messages { (ms : List Message) × Went W.sight wire.old ms wire.new
             × IsGroup Way.ToServers (words_for keys.now) ms
             × IfOk result (λ ready. HaveRead (read_for keys.now) (views_of ready.keys) ms) }
     {
@@ -161,7 +161,7 @@ impl Ready {
         ensures chain { IfOk result (λ b. b.chain ≡ None) }
         ensures messages { let pieces = by_server (pieces_of (map S.held shelves.old.zero.items))
             (pieces_of (map S.held shelves.old.one.items)) (pieces_of (map S.held shelves.old.two.items)) in
-            (ms : List Message) × Went W.told W.alterations W.passes wire.old ms wire.new
+            (ms : List Message) × Went W.sight wire.old ms wire.new
             × IsGroup Way.Around (bits_of self.now.plan run (views_of self.now.keys) pieces 0) ms
             × IfOk result (λ b. AreReshared b.bits ms) }
     {

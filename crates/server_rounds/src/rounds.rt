@@ -46,7 +46,7 @@ pub(crate) fn bits_round<R: Threads + Sync, S: Shelf + Send, W: Wire>(
     ensures long { IfOk result (λ held. AreLong plan.now.rows held) }
     ensures messages { let pieces = by_server (pieces_of (map S.held shelves.old.zero.items))
         (pieces_of (map S.held shelves.old.one.items)) (pieces_of (map S.held shelves.old.two.items)) in
-        (ms : List Message) × Went W.told W.alterations W.passes wire.old ms wire.new
+        (ms : List Message) × Went W.sight wire.old ms wire.new
         × IsGroup Way.Around (bits_of plan.now run (views_of keys.now) pieces j) ms
         × IfOk result (λ held. AreReshared held ms) }
 {
@@ -84,7 +84,7 @@ pub(crate) fn product_round<R: Threads + Sync, W: Wire>(
     requires chain { AreLong plan.now.rows chain.now }
     requires bits { AreLong plan.now.rows bits.now }
     ensures long { IfOk result (λ held. AreLong plan.now.rows held) }
-    ensures messages { (ms : List Message) × Went W.told W.alterations W.passes wire.old ms wire.new
+    ensures messages { (ms : List Message) × Went W.sight wire.old ms wire.new
         × IsGroup Way.Around (products_of plan.now run (views_of keys.now) j chain.now bits.now) ms
         × IfOk result (λ held. AreReshared held ms) }
 {
@@ -100,7 +100,7 @@ pub fn open_words<W: Wire>(wire: &mut W, words: Trio) -> Result<u128, Memory>
     requires zero { length words.zero ≡ 1 }
     requires one { length words.one ≡ 1 }
     requires two { length words.two ≡ 1 }
-    ensures { (ms : List Message) × Went W.told W.alterations W.passes wire.old ms wire.new
+    ensures { (ms : List Message) × Went W.sight wire.old ms wire.new
         × IsGroup Way.ToClient (by_server words.zero words.one words.two) ms
         × IfOk result (λ total. IsOpened ms total) }
 {
@@ -131,7 +131,7 @@ pub(crate) fn opening_round<R: Threads + Sync, S: Shelf + Send, W: Wire>(
     ensures visits { AllVisited S.held S.visited (opened_columns plan.now.shape.aggregate plan.now.widths.columns) shelves.old shelves.new result }
     ensures messages { let pieces = by_server (pieces_of (map S.held shelves.old.zero.items))
         (pieces_of (map S.held shelves.old.one.items)) (pieces_of (map S.held shelves.old.two.items)) in
-        (ms : List Message) × Went W.told W.alterations W.passes wire.old ms wire.new
+        (ms : List Message) × Went W.sight wire.old ms wire.new
         × IsGroup Way.ToClient (openings_of plan.now run (views_of keys.now) pieces chain.now) ms
         × IfOk result (λ total. IsOpened ms total) }
 {

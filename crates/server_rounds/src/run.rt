@@ -47,7 +47,7 @@ fn first_predicate<R: Threads + Sync, S: Shelf + Send, W: Wire>(
     ensures j { IfOk result (λ p. p.j ≡ 0) }
     ensures messages { let pieces = by_server (pieces_of (map S.held shelves.old.zero.items))
         (pieces_of (map S.held shelves.old.one.items)) (pieces_of (map S.held shelves.old.two.items)) in
-        (ms : List Message) × Went W.told W.alterations W.passes wire.old ms wire.new
+        (ms : List Message) × Went W.sight wire.old ms wire.new
         × IsGroup Around (bits_of ready.now.plan run (views_of ready.now.keys) pieces 0) ms
         × IfOk result (λ p. AreReshared p.chain ms) }
 {
@@ -79,7 +79,7 @@ fn next_predicate<R: Threads + Sync, S: Shelf + Send, W: Wire>(
     ensures j { IfOk result (λ p. p.j ≡ chain.j + 1) }
     ensures messages { let pieces = by_server (pieces_of (map S.held shelves.old.zero.items))
         (pieces_of (map S.held shelves.old.one.items)) (pieces_of (map S.held shelves.old.two.items)) in
-        (ms : List Message) × Went W.told W.alterations W.passes wire.old ms wire.new
+        (ms : List Message) × Went W.sight wire.old ms wire.new
         × ((part : IsPredicatePart chain.plan chain.run (views_of ready.now.keys) pieces (chain.j + 1) chain.chain ms)
         × IfOk result (λ p. AreReshared p.chain part.product_messages)) }
 {
@@ -113,7 +113,7 @@ pub fn run_products<R: Threads + Sync, S: Shelf + Send, W: Wire>(
     ensures messages { let pieces = by_server (pieces_of (map S.held shelves.old.zero.items))
         (pieces_of (map S.held shelves.old.one.items)) (pieces_of (map S.held shelves.old.two.items)) in
         let views = views_of ready.now.keys in
-        (ms : List Message) × Went W.told W.alterations W.passes wire.old ms wire.new
+        (ms : List Message) × Went W.sight wire.old ms wire.new
         × ((ending : Ending) → IsRunPart ready.now.plan ending pieces run views ms)
         × IfOk result (λ p. HaveProducts ready.now.plan pieces run views (count_of ready.now.plan) p.chain ms) }
 {
@@ -146,7 +146,7 @@ fn run_once<R: Threads + Sync, S: Shelf + Send, W: Wire>(
     ensures messages { let pieces = by_server (pieces_of (map S.held shelves.old.zero.items))
         (pieces_of (map S.held shelves.old.one.items)) (pieces_of (map S.held shelves.old.two.items)) in
         let views = views_of ready.now.keys in
-        (ms : List Message) × Went W.told W.alterations W.passes wire.old ms wire.new
+        (ms : List Message) × Went W.sight wire.old ms wire.new
         × IsRunPart ready.now.plan (total_ending ready.now.plan) pieces run views ms
         × IfOk result (λ total. IsRun ready.now.plan (total_ending ready.now.plan) pieces run views ms 0 total) }
 {
@@ -178,7 +178,7 @@ pub fn both_runs<R: Threads + Sync, S: Shelf + Send, W: Wire>(
     ensures messages { let pieces = by_server (pieces_of (map S.held shelves.old.zero.items))
         (pieces_of (map S.held shelves.old.one.items)) (pieces_of (map S.held shelves.old.two.items)) in
         let setup = setup_for keys.now.query keys.now.widths keys.now.seed (rows_of (map S.held shelves.old.zero.items)) pieces in
-        (ms : List Message) × Went W.told W.alterations W.passes wire.old ms wire.new
+        (ms : List Message) × Went W.sight wire.old ms wire.new
         × IsPart setup ms
         × IfOk result (λ pair. IsTranscript setup ms × (pair.total ≡ opened_of setup ms 0) × (pair.weighted ≡ opened_of setup ms 1)) }
 {

@@ -1,13 +1,14 @@
 -- What the parts of three servers add up to.
-use Rattle.std.proofs.Common.{◌≡◌, ℕ, ◌+◌, List, [], ◌∷◌, ◌++◌, length, get_or, take, drop, refl, sym, ap, ◌∙◌, arith}
+use Rattle.std.proofs.Common.{◌≡◌, ℕ, ◌+◌, ◌<◌, List, [], ◌∷◌, ◌++◌, length, get_or, take, drop, refl, sym, ap, ◌∙◌, arith}
 use Rattle.std.proofs.Math.Seq.{take-append_seam}
+use Rattle.std.proofs.lemmas.List.{drop_more}
 use Rattle.list_facts.proofs.Listed.{length-listed, get_or-listed}
 use Rattle.prg_chacha.specs.declared.seed.Seed.{Seed}
 use Rattle.prg_chacha.specs.Prg.{pad_of}
 use Rattle.ring128.specs.Ring.{plus, minus, times, dot_of, sums, sums3}
 use Rattle.ring128.proofs.Laws.{inward, sums-listed, length-sums3, get_or-sums3, listed_add_up, dot_of-below, dot_of-sums3, dot_of-sums3_right}
 use Rattle.zero_share.specs.Zero.{parts_of}
-use Rattle.share_product.specs.Product.{local_of, locals_of, local_rows_of}
+use Rattle.share_product.specs.Product.{local_of, locals_of, local_rows_of, inner_of}
 use Rattle.share_product.specs.Laws.{LocalsAddUp, RowsAddUp, InnersAddUp, InnersJoin, ReshareShares}
 
 pub locals_add_up : LocalsAddUp
@@ -65,3 +66,14 @@ rows_in_place a a' b b' own next start len rows lent words made size same added 
     let whole : words ≡ local_rows_of a a' b b' own next start = added ∙ rw (same, long, made) (rows_with_zero a a' b b' own next start (length a) refl) in
     let seam : len ≡ length words = size ∙ (long ∙ sym (ap length whole ∙ length-listed (length a) _)) in
     rw seam (take-append_seam words _ ∙ whole)
+
+-- a part of a product by two products
+pub local_by_two : (a a' b b' : ℕ) → plus (times a (plus b b')) (times a' b) ≡ local_of a a' b b'
+local_by_two a a' b b' = simp inward (omega arith)
+
+-- the sum so far and the part for what is left, one place on
+pub inner_of-more : (s t p i : ℕ) (a a' b b' : List ℕ) → length a' ≡ length a → length b ≡ length a → length b' ≡ length a → i < length a
+    → t ≡ plus s p → p ≡ local_of (get_or a i 0) (get_or a' i 0) (get_or b i 0) (get_or b' i 0)
+    → plus t (inner_of (drop (i + 1) a) (drop (i + 1) a') (drop (i + 1) b) (drop (i + 1) b')) ≡ plus s (inner_of (drop i a) (drop i a') (drop i b) (drop i b'))
+inner_of-more s t p i a a' b b' ea eb eb' h e0 e1 =
+    rw (e0, e1, drop_more a i 0 h, drop_more a' i 0 (omega arith), drop_more b i 0 (omega arith), drop_more b' i 0 (omega arith)) (omega arith)

@@ -3,7 +3,7 @@ ghost use Rattle.list_facts.specs.Listed.{listed};
 ghost use Rattle.share_product.specs.Product.{local_of, locals_of, local_rows_of, inner_of};
 
 use replicated_share::{Pair, PairList};
-use ring128::{Memory, Words, add, dot, mul};
+use ring128::{Memory, Words, add, mul};
 use std::alloc::Global;
 use zero_share::ZeroSeeds;
 
@@ -11,7 +11,7 @@ use zero_share::ZeroSeeds;
 pub fn local(a: Pair, b: Pair) -> u128
     ensures { result ≡ local_of a.first a.second b.first b.second }
 {
-    let near = add(mul(a.first, b.first), mul(a.first, b.second));
+    let near = mul(a.first, add(b.first, b.second));
     add(near, mul(a.second, b.first))
 }
 
@@ -72,8 +72,12 @@ pub fn inner_lent(a_first: &[u128], a_second: &[u128], b_first: &[u128], b_secon
     requires b_second { length b_second.now ≡ length a_first.now }
     ensures { result ≡ inner_of a_first.now a_second.now b_first.now b_second.now }
 {
-    let near = add(dot(a_first, b_first), dot(a_first, b_second));
-    add(near, dot(a_second, b_first))
+    let mut sum = 0;
+    for (i, first) in a_first.iter().enumerate() {
+        let near = mul(*first, add(b_first[i], b_second[i]));
+        sum = add(sum, add(near, mul(a_second[i], b_first[i])));
+    }
+    sum
 }
 
 /// What a server holds after it sent its part of each number to the server before and got the next server's.

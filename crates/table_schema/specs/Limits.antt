@@ -17,7 +17,7 @@ most_cells = 4194304
 abbrev pub IsValue : ℤ → Type 0
 IsValue value = (pos 0 ≤ℤ value) × (value ≤ℤ pos 4294967295)
 
--- the widths of so many columns: 1 to 8 bits for each, and 0 past them
+-- the widths of `columns` columns: 1 to 8 bits for each, and 0 past them
 abbrev pub AreWidths : ℕ → List ℕ → Type 0
 AreWidths columns bits = (0 < columns) × (columns ≤ most_columns)
     × ((i : ℕ) → i < columns → (0 < get_or bits i 0) × (get_or bits i 0 ≤ 8))

@@ -25,12 +25,12 @@ abbrev pub start_of : Option (List ℕ) → Option ℕ
 start_of None = Some 0
 start_of (Some text) = number_of text
 
--- a number that isn't 0
+-- a number that is not 0
 abbrev pub if_positive : Option ℕ → Option ℕ
 if_positive None = None
 if_positive (Some n) = if n == 0 then None else Some n
 
--- a number that isn't 0, and 1 where nothing stands
+-- a number that is not 0, and 1 where nothing stands
 abbrev pub step_of : Option (List ℕ) → Option ℕ
 step_of None = Some 1
 step_of (Some text) = if_positive (number_of text)

@@ -16,7 +16,7 @@ abbrev pub Reads : {X Y E : Type 0} → (X → Y) → Result X E → Result Y E 
 Reads view (Ok x) read = read ≡ Ok (view x)
 Reads view (Err e) read = read ≡ Err e
 
--- the same for a function that may want memory: it gave memory, or what reading gives
+-- what a function gave that may run out of memory: that fault, or what reading gives
 abbrev pub Gives : {X Y E : Type 0} → E → (X → Y) → Result X E → Result Y E → Type 0
 Gives memory view (Ok x) read = read ≡ Ok (view x)
 Gives memory view (Err e) read = (e ≡ memory) ⊎ (read ≡ Err e)

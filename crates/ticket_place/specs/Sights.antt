@@ -10,7 +10,8 @@ pub record Named : Type 0 where
   pub id : TableId
   pub capacity : ℕ
 
--- which book it is of, the order that it has seen, the draws that it may still make, the places drawn through it, and its loads of the order's length
+-- which book it is of, the order that it has seen, the draws that it may still make, the places drawn through it, and its loads of the
+-- order's length
 pub record Seen : Type 0 where
   pub book : Named
   pub order : List (Row × Seed)
@@ -22,7 +23,8 @@ pub record Seen : Type 0 where
 abbrev pub IsSound : Seen → Type 0
 IsSound s = Sound s.book.capacity s.order s.room s.own
 
--- the order is the old one, then what others drew, then the entry, at this place, which is now among the own ones; one draw less is left, and the rest is as before
+-- the order is the old one, then what others drew, then the entry, at this place, which is now among the own ones; one draw less is
+-- left, and the rest is as before
 pub record Draws (entry : Row × Seed) (before : Seen) (place : ℕ) (after : Seen) : Type 0 where
   pub others : List (Row × Seed)
   pub order : after.order ≡ (before.order ++ others) ++ entry ∷ []

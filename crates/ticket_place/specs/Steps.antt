@@ -1,4 +1,5 @@
--- What each step on the book's word tells the seat that makes it: `m` is the seat before it, `m'` after it, and `found` the word that it found.
+-- What each step on the book's word says to the seat that makes it: `m` is the seat before it, `m'` after it, and `found` the word that it
+-- found.
 use Rattle.std.specs.Prelude.{◌≡◌, ℕ, ◌+◌, ◌-◌, ◌<◌, ◌^◌, List, [], ◌∷◌, ◌++◌, length, pos}
 use mathlib.Core.List.{IsPrefix}
 use Rattle.atomic_table.specs.Table.{Me, Step}

@@ -2,6 +2,7 @@ ghost use Rattle.std.specs.Prelude.{◌≡◌, ℕ, ◌+◌, ◌-◌, ◌<◌, �
 ghost use mathlib.Core.List.{IsPrefix};
 ghost use Rattle.list_facts.specs.Count.{longer, times};
 ghost use Rattle.ticket_place.specs.Sights.{Draws, IsSound};
+ghost use Rattle.wire_line.specs.Sights.{Sight};
 
 use crate::entry::Entry;
 use crate::rule::{Board, Brand};
@@ -141,7 +142,8 @@ impl Book {
         requires { (sight.old.book ≡ self.now) × (other.book ≡ self.now) }
         ensures order { sight.new.order ≡ longer sight.old.order other.order }
         ensures grown { IsPrefix sight.old.order sight.new.order × IsPrefix other.order sight.new.order }
-        ensures sums { sight.new ≡ record sight.old { order = sight.new.order; room = sight.old.room + other.room; own = sight.old.own ++ other.own } }
+        ensures sums { sight.new
+            ≡ record sight.old { order = sight.new.order; room = sight.old.room + other.room; own = sight.old.own ++ other.own } }
         ensures apart { (x : ℕ) → times x sight.old.own + times x other.own ≤ 1 }
         ensures sound { IsSound sight.new }
     {

@@ -1,4 +1,4 @@
-// The rule of the book's word, and what each step on it tells.
+// The rule of the book's word, and what each step on it says.
 use crate::known::Known;
 use atomic_table::{Join, Play, Split, Table, TableRule};
 use std::alloc::Global;

@@ -1,5 +1,6 @@
 ghost use Rattle.std.specs.Prelude.{◌≡◌};
 ghost use Rattle.ticket_place.specs.Sights.{IsSound};
+ghost use Rattle.wire_line.specs.Sights.{Sight};
 
 use crate::known::Known;
 use atomic_table::Seat;
@@ -23,9 +24,16 @@ impl Model for Sight {
 
     ghost Value = { Seen };
 
-    ghost view = { λ s. record { book = record { id = s.seat.table_id; capacity = s.capacity }; order = s.seat.me.0.order; room = s.room; own = s.seat.me.0.own; looks = s.seat.me.0.looks } };
+    ghost view = { λ s. record {
+      book = record { id = s.seat.table_id; capacity = s.capacity };
+      order = s.seat.me.0.order;
+      room = s.room;
+      own = s.seat.me.0.own;
+      looks = s.seat.me.0.looks;
+    } };
 
-    ghost invariant = { λ s. (s.room ≡ s.seat.me.0.room) × (s.seat.me.1 ≡ []) × (s.seat.me.0.left ≡ []) × (s.seat.me.0.right ≡ []) × SoundSeat s.capacity s.seat.me.0 };
+    ghost invariant = { λ s. (s.room ≡ s.seat.me.0.room) × (s.seat.me.1 ≡ []) × (s.seat.me.0.left ≡ [])
+        × (s.seat.me.0.right ≡ []) × SoundSeat s.capacity s.seat.me.0 };
 }
 
 impl Sight {

@@ -52,7 +52,7 @@ pub(crate) fn hand<N: Handing>(
     word.split_seat::<Hands<N>>(seat)
 }
 
-// A join, and the load that tells what it learned.
+// A join, and the load that says what it learned.
 pub(crate) fn join<N: Bounding>(word: &Word, seat: &mut Seat<(), Known>, other: Seat<(), Known>)
     requires capacity { word.now.key ≡ N.capacity }
     requires word { (word.now.table_id.words ≡ 1) × (seat.old.table_id ≡ word.now.table_id) }

@@ -6,7 +6,7 @@ use report_lines::Sink;
 use row_source::Source;
 use std::io::{Read, Write};
 
-/// A source over a reader. It tells the bytes that the reader tells.
+/// A source over a reader. It reports the bytes that the reader reports.
 #[derive(Drop)]
 pub struct Reading<R> {
     inner: R,
@@ -16,17 +16,15 @@ pub struct Reading<R> {
 impl<R: Read> Reading<R> {
     /// A source with no fault so far.
     pub fn new(inner: R) -> Reading<R>
-        ensures left { ⟦<Reading<R> as Source>⟧.left result ≡ R.remaining inner }
-        ensures none { ⟦<Reading<R> as Source>⟧.fault_count result ≡ 0 }
+        ensures left { ⟦<Reading<R> as Source>⟧.sight.bytes result ≡ R.remaining inner }
+        ensures none { ⟦<Reading<R> as Source>⟧.sight.faults result ≡ 0 }
     {
         Reading { inner, faults: 0 }
     }
 }
 
 impl<R: Read> Source for Reading<R> {
-    ghost left = { λ s. R.remaining s.inner };
-
-    ghost fault_count = { λ s. s.faults };
+    ghost sight = { record { bytes = λ s. R.remaining s.inner; faults = λ s. s.faults } };
 
     fn faults(&self) -> u64 {
         self.faults
@@ -43,7 +41,7 @@ impl<R: Read> Source for Reading<R> {
     }
 }
 
-/// A sink over a writer. It tells the bytes that the writer tells.
+/// A sink over a writer. It reports the bytes that the writer reports.
 #[derive(Drop)]
 pub struct Writing<W> {
     inner: W,
@@ -53,23 +51,21 @@ pub struct Writing<W> {
 impl<W: Write> Writing<W> {
     /// A sink with no fault so far.
     pub fn new(inner: W) -> Writing<W>
-        ensures taken { ⟦<Writing<W> as Sink>⟧.taken result ≡ W.contents inner }
-        ensures none { ⟦<Writing<W> as Sink>⟧.fault_count result ≡ 0 }
+        ensures taken { ⟦<Writing<W> as Sink>⟧.sight.bytes result ≡ W.contents inner }
+        ensures none { ⟦<Writing<W> as Sink>⟧.sight.faults result ≡ 0 }
     {
         Writing { inner, faults: 0 }
     }
 }
 
 impl<W: Write> Sink for Writing<W> {
-    ghost taken = { λ s. W.contents s.inner };
-
-    ghost fault_count = { λ s. s.faults };
+    ghost sight = { record { bytes = λ s. W.contents s.inner; faults = λ s. s.faults } };
 
     fn faults(&self) -> u64 {
         self.faults
     }
 
-    // A write that takes nothing of a piece that isn't empty counts as a failure.
+    // A write that takes nothing of a piece that is not empty counts as a failure.
     fn put(&mut self, piece: &[u8]) -> Result<(), report_lines::Failed> {
         let mut rest = piece;
         while !rest.is_empty() {

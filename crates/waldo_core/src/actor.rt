@@ -74,7 +74,8 @@ impl ActorState {
     // its place.
     fn go_on(&mut self)
         requires { IfSome self.old.draw (λ d. d.place + 1 < 2 ^ 64) }
-        ensures seen { IfSome self.old.draw (λ d. let held = ⟦<Snapshot as Shelf>⟧.held in seen_actor held self.new ≡ with_draw (seen_actor held self.old) (seen_draw d)) }
+        ensures seen { IfSome self.old.draw (λ d. let held = ⟦<Snapshot as Shelf>⟧.held in
+            seen_actor held self.new ≡ with_draw (seen_actor held self.old) (seen_draw d)) }
         ensures left { IfSome self.new.draw (λ d. self.old.draw ≡ Some d) }
         ensures unfixed { self.new.snapshots ≡ Snapshots.Unfixed }
     {

@@ -27,7 +27,7 @@ pub(crate) struct Logs {
 }
 
 impl Logs {
-    /// Logs without pieces. The only error is want of memory.
+    /// Logs without pieces. The only error is out of memory.
     pub(crate) fn new(alloc: Global, widths: &Widths, capacity: u32) -> Result<Logs, Memory>
         requires { Fits (column_bits widths.now) capacity }
         ensures zero { IfOk result (λ logs. logs.zero ≡ empty_log 0 widths.now capacity) }
@@ -66,7 +66,7 @@ impl Logs {
         })
     }
 
-    /// Takes as many rows as there are places, in logs without pieces. The only error is want of memory; the logs then stay.
+    /// Takes as many rows as there are places, in logs without pieces. The only error is out of memory; the logs then stay.
     pub(crate) fn append_rows<R: Threads + Sync>(
         &mut self,
         rt: &R,
@@ -129,7 +129,7 @@ impl Logs {
         }
     }
 
-    /// A snapshot of a server's first places. The only error is want of memory.
+    /// A snapshot of a server's first places. The only error is out of memory.
     pub(crate) fn fix(&mut self, alloc: Global, server: u8) -> Result<Snapshot, Memory>
         ensures stays { self.new ≡ self.old }
         ensures fixed { IfOk result (λ s. IsFixOf (⟦<Snapshot as Shelf>⟧.held s) (log_of self.old server)) }
@@ -163,7 +163,8 @@ fn side_by_side<R: Threads + Sync>(
     { ServerLog::new(alloc, 0, widths, capacity) };
     let others = || -> (Result<ServerLog, Memory>, Result<ServerLog, Memory>)
         requires { IsSync R.row × Fits (column_bits widths.now) capacity }
-        ensures { IfOk result.0 (λ log. log ≡ empty_log 1 widths.entry.now capacity) × IfOk result.1 (λ log. log ≡ empty_log 2 widths.entry.now capacity) }
+        ensures { IfOk result.0 (λ log. log ≡ empty_log 1 widths.entry.now capacity)
+            × IfOk result.1 (λ log. log ≡ empty_log 2 widths.entry.now capacity) }
     { one_and_two(rt, alloc, widths, capacity) };
     join(rt, zero, others)
 }

@@ -1,6 +1,5 @@
 //! The machine.
 ghost use Rattle.std.specs.Prelude.{◌≡◌, ◌≤◌, List, All, IfOk, IfErr, IfNone, IfSome, OnErr, OnOk, false, length, map, slice_get, Err, None, Ok};
-ghost use Rattle.fault_count.specs.Causes.{Rose};
 ghost use Rattle.list_facts.specs.Listed.{listed};
 ghost use Rattle.table_schema.specs.Widths.{Fits, Holds, column_bits};
 ghost use Rattle.prefix_log.specs.Logs.{empty_log};
@@ -15,6 +14,7 @@ ghost use Rattle.waldo_core.specs.Machines.{HasOpenFault, IsHeld, Stepped, new_m
 ghost use Rattle.waldo_core.specs.Outcomes.{Quietly, named};
 ghost use Rattle.waldo_core.specs.Step.{is_altered};
 ghost use Rattle.waldo_core.specs.Held.{IsAgreedBy, fresh_state};
+ghost use Rattle.wire_line.specs.Sights.{HasAltered};
 
 use crate::actor::ActorState;
 use crate::draw::OpenDraw;
@@ -58,15 +58,29 @@ impl Model for Machine {
     ghost use Rattle.waldo_core.specs.Held.{IsMachine, seen_machine};
 
     ghost view = { λ m. seen_machine ⟦<Snapshot as Shelf>⟧.held
-        (record { widths = m.widths; capacity = m.capacity; workers = m.workers; order = m.order.all; logs = m.logs; actors = m.actors.items }) };
+        (record {
+          widths = m.widths;
+          capacity = m.capacity;
+          workers = m.workers;
+          order = m.order.all;
+          logs = m.logs;
+          actors = m.actors.items;
+        }) };
 
     ghost invariant = { λ m. IsMachine ⟦<Snapshot as Shelf>⟧.held m.order.capacity
-        (record { widths = m.widths; capacity = m.capacity; workers = m.workers; order = m.order.all; logs = m.logs; actors = m.actors.items }) };
+        (record {
+          widths = m.widths;
+          capacity = m.capacity;
+          workers = m.workers;
+          order = m.order.all;
+          logs = m.logs;
+          actors = m.actors.items;
+        }) };
 }
 
 impl Machine {
-    /// A machine in which nothing was drawn, for rows of these widths, and for at most so many. Its scans use so many
-    /// workers, from 1 to 16. It is refused where the capacity does not fit the widths.
+    /// A machine in which nothing was drawn, for at most `capacity` rows of these widths. Its scans use `workers` threads,
+    /// from 1 to 16. It is refused where the capacity does not fit the widths.
     pub fn new(
         alloc: Global,
         widths: Widths,
@@ -144,7 +158,7 @@ impl Machine {
     }
 
     /// Takes as many rows as it takes at all, where nothing was drawn: actor 0 draws each and places it at each server, one row after
-    /// another. They are split and written by the machine's workers. The only error is want of memory; the machine is then as before.
+    /// another. They are split and written by the machine's workers. The only error is out of memory; the machine is then as before.
     pub fn append_rows<R: Threads + Sync>(
         &mut self,
         rt: &R,
@@ -177,10 +191,10 @@ impl Machine {
         wire: &mut W,
     ) -> Result<Reply, StepFault>
         requires held { IsHeld self.old.widths event }
-        ensures stepped { (ms : List Message) × (pair : OpenedPair) × Went W.told W.alterations W.passes wire.old ms wire.new
+        ensures stepped { (ms : List Message) × (pair : OpenedPair) × Went W.sight wire.old ms wire.new
             × Stepped self.old event ms pair self.new result
             × (IsHonest ms → IfOk result (λ reply. IsPlain self.old.core event pair × (is_altered reply ≡ false))) }
-        ensures accepted { ¬ Rose (W.alterations wire.old) (W.alterations wire.new) → IfOk result (λ reply. is_altered reply ≡ false) }
+        ensures accepted { ¬ HasAltered W.sight wire.old wire.new → IfOk result (λ reply. is_altered reply ≡ false) }
         ensures widths { self.new.widths ≡ self.old.widths }
         ensures legal { IsLegal self.new.core }
         ensures quiet { IsQuiet event → wire.new ≡ wire.old }
@@ -200,7 +214,7 @@ impl Machine {
         wire: &mut W,
     ) -> Result<Option<Reply>, Memory>
         requires held { IsHeld self.old.widths event }
-        ensures stepped { (ms : List Message) × (pair : OpenedPair) × Went W.told W.alterations W.passes wire.old ms wire.new
+        ensures stepped { (ms : List Message) × (pair : OpenedPair) × Went W.sight wire.old ms wire.new
             × Stepped self.old event ms pair self.new (named event result)
             × (IsHonest ms → IfOk (named event result) (λ reply. IsPlain self.old.core event pair × (is_altered reply ≡ false))) }
         ensures quiet { IsQuiet event → wire.new ≡ wire.old }
@@ -282,8 +296,8 @@ impl Machine {
         Ok(Some(reply))
     }
 
-    // What an actor agreed on.
-    fn agreed(&self, number: u8) -> Option<&Agreed>
+    /// The rows that an actor agreed on: the first ones of the order, as the three servers hold them. `None` where it has no agreement.
+    pub fn agreed(&self, number: u8) -> Option<&Agreed>
         ensures none { IfNone result (rows_agreed (slice_get self.now.core.actors number) ≡ None) }
         ensures some { IfSome result (λ a. IsAgreedBy self.now number a.now) }
     {
@@ -308,7 +322,7 @@ impl Machine {
         wire: &mut W,
     ) -> Result<Option<Reply>, Memory>
         ensures stepped { let event = Event.Answer number query.now seed.now in
-            (ms : List Message) × (pair : OpenedPair) × Went W.told W.alterations W.passes wire.old ms wire.new
+            (ms : List Message) × (pair : OpenedPair) × Went W.sight wire.old ms wire.new
             × Stepped self.now event ms pair self.now (named event result)
             × (IsHonest ms → IfOk (named event result) (λ reply. IsPlain self.now.core event pair × (is_altered reply ≡ false))) }
         ensures refused { result ≡ Ok None → wire.new ≡ wire.old }

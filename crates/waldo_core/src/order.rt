@@ -30,7 +30,7 @@ impl Model for Order {
 }
 
 impl Order {
-    /// No draws yet, and at most so many. The only error is want of memory.
+    /// No draws yet, and at most `capacity`. The only error is out of memory.
     pub(crate) fn new(alloc: Global, capacity: u32) -> Result<Order, Memory>
         ensures { IfOk result (λ o. o ≡ record { all = []; capacity = capacity }) }
     {

@@ -20,8 +20,9 @@ use Rattle.waldo_words.specs.declared.faults.WordFault.{WordFault}
 use Rattle.waldo_words.specs.declared.faults.WordFault.TheVariants as faults
 use Rattle.waldo_words.specs.declared.schedule.Step.{Step}
 use Rattle.waldo_run.specs.Replies.{Reply, Suits, checked_answer, refusal, reply_over, row_refusal, single, unread}
-use Rattle.waldo_run.specs.Run.{Answers, Asked, AskedIn, AskedOver, Begun, BegunAt, BegunIn, BegunOver, Breaks, Change, Replies}
+use Rattle.waldo_run.specs.Run.{Answers, Asked, AskedIn, AskedOver, Begun, BegunAt, BegunIn, BegunOver, Breaks, Replies}
 use Rattle.waldo_run.specs.Tasks.{AreWidthsIn, common_in, reads_input, rows_in, rows_made, task_over}
+use Rattle.fault_count.specs.Streams.{Change}
 
 -- without a step nothing was begun
 pub none_begun : (command : Command) (w : Widths) → AreWidthsIn command w → (rows : Result (List Row) RowFault) → BegunIn command [] rows
@@ -91,7 +92,7 @@ unread_suits command e = by (reads_input command) e
 
 -- the replies over all bytes of an input, and over rows that were made
 pub whole_replies : (command : Command) (source : Change) (bytes : List ℕ) (carried : List Done → Type 0) (unaltered : ℕ → Type 0) → reads_input command ≡ true
-    → Reads most_bytes (Whole bytes) source.old source.new source.before source.now → (result : Result Reply Memory)
+    → Reads most_bytes (Whole bytes) source → (result : Result Reply Memory)
     → Answers command (rows_in (common_in command) bytes) carried unaltered result → IfOk result (Replies (Ok command) source carried unaltered)
 whole_replies command source bytes carried unaltered e reads (Err memory) a = tt
 whole_replies command source bytes carried unaltered e reads (Ok reply) a = record {
@@ -106,7 +107,7 @@ whole_replies command source bytes carried unaltered e reads (Ok reply) a = reco
 }
 
 pub made_replies : (command : Command) (source : Change) (carried : List Done → Type 0) (unaltered : ℕ → Type 0) → reads_input command ≡ false
-    → Reads most_bytes Untouched source.old source.new source.before source.now → (result : Result Reply Memory)
+    → Reads most_bytes Untouched source → (result : Result Reply Memory)
     → Answers command (Ok (rows_made command)) carried unaltered result → IfOk result (Replies (Ok command) source carried unaltered)
 made_replies command source carried unaltered e reads (Err memory) a = tt
 made_replies command source carried unaltered e reads (Ok reply) a = record {
@@ -122,14 +123,14 @@ made_replies command source carried unaltered e reads (Ok reply) a = record {
 
 -- what was carried when memory was lacking
 pub whole_breaks : (command : Command) (source : Change) (bytes : List ℕ) (carried : List Done → Type 0) (unaltered : ℕ → Type 0) → reads_input command ≡ true
-    → Reads most_bytes (Whole bytes) source.old source.new source.before source.now → (result : Result Reply Memory)
+    → Reads most_bytes (Whole bytes) source → (result : Result Reply Memory)
     → Answers command (rows_in (common_in command) bytes) carried unaltered result → OnErr result (Breaks (Ok command) source carried)
 whole_breaks command source bytes carried unaltered e reads (Ok reply) a = tt
 whole_breaks command source bytes carried unaltered e reads (Err memory) a =
     record { history = a.history; sent = a.sent; begun = inr (Whole bytes, read_suits command (Whole bytes) e (λ f. cc), reads, a.begun) }
 
 pub made_breaks : (command : Command) (source : Change) (carried : List Done → Type 0) (unaltered : ℕ → Type 0) → reads_input command ≡ false
-    → Reads most_bytes Untouched source.old source.new source.before source.now → (result : Result Reply Memory)
+    → Reads most_bytes Untouched source → (result : Result Reply Memory)
     → Answers command (Ok (rows_made command)) carried unaltered result → OnErr result (Breaks (Ok command) source carried)
 made_breaks command source carried unaltered e reads (Ok reply) a = tt
 made_breaks command source carried unaltered e reads (Err memory) a =
@@ -142,7 +143,7 @@ refused_status (faults.Missing name) e = omega (arith, e)
 refused_status faults.Memory e = omega (arith, e)
 
 pub refused_replies : (command : Result Command WordFault) (fault : WordFault) (source : Change) (carried : List Done → Type 0) (unaltered : ℕ → Type 0) (reply : Reply)
-    → command ≡ Err fault → Reads most_bytes Untouched source.old source.new source.before source.now → carried [] → reply ≡ refusal fault
+    → command ≡ Err fault → Reads most_bytes Untouched source → carried [] → reply ≡ refusal fault
     → Replies command source carried unaltered reply
 refused_replies command fault source carried unaltered reply is reads none e =
     subst (λ (m : Result Command WordFault). Replies m source carried unaltered reply) (sym is)
@@ -158,7 +159,7 @@ refused_replies command fault source carried unaltered reply is reads none e =
     })
 
 pub broken_replies : (command : Command) (source : Change) (carried : List Done → Type 0) (unaltered : ℕ → Type 0) (reply : Reply) → reads_input command ≡ true
-    → Reads most_bytes Broken source.old source.new source.before source.now → carried [] → reply ≡ single 3 lines.ReadFault
+    → Reads most_bytes Broken source → carried [] → reply ≡ single 3 lines.ReadFault
     → Replies (Ok command) source carried unaltered reply
 broken_replies command source carried unaltered reply r reads none e = record {
   reading = Broken;
@@ -172,7 +173,7 @@ broken_replies command source carried unaltered reply r reads none e = record {
 }
 
 pub long_replies : (command : Command) (source : Change) (carried : List Done → Type 0) (unaltered : ℕ → Type 0) (reply : Reply) → reads_input command ≡ true
-    → Reads most_bytes Long source.old source.new source.before source.now → carried [] → reply ≡ single 5 lines.TooLong
+    → Reads most_bytes Long source → carried [] → reply ≡ single 5 lines.TooLong
     → Replies (Ok command) source carried unaltered reply
 long_replies command source carried unaltered reply r reads none e = record {
   reading = Long;
@@ -187,7 +188,7 @@ long_replies command source carried unaltered reply r reads none e = record {
 
 -- an input that was not read whole
 pub unread_replies : (command : Command) (fault : ReadFault) (source : Change) (carried : List Done → Type 0) (unaltered : ℕ → Type 0) (reply : Reply) → reads_input command ≡ true
-    → HasReadFault most_bytes fault source.old source.new source.before source.now → carried [] → (reply ≡ unread fault) × (fault ≢ input.Memory)
+    → HasReadFault most_bytes fault source → carried [] → (reply ≡ unread fault) × (fault ≢ input.Memory)
     → Replies (Ok command) source carried unaltered reply
 unread_replies command input.Failed source carried unaltered reply r reads none e = broken_replies command source carried unaltered reply r reads none e.0
 unread_replies command input.TooLong source carried unaltered reply r reads none e = long_replies command source carried unaltered reply r reads none e.0
@@ -217,7 +218,7 @@ begun_at unaltered command history Long asked = asked
 begun_at unaltered command history (Whole bytes) asked = begun_in unaltered command history (rows_in (common_in command) bytes) asked
 
 begun_of : (command : Result Command WordFault) (source : Change) (unaltered : ℕ → Type 0) (reading : Reading) (history : List Done) → Suits command reading
-    → Reads most_bytes reading source.old source.new source.before source.now → Asked unaltered command history reading → Begun command history source
+    → Reads most_bytes reading source → Asked unaltered command history reading → Begun command history source
 begun_of (Err fault) source unaltered reading history suits reads asked = asked
 begun_of (Ok command) source unaltered reading history suits reads asked = inr (reading, suits, reads, begun_at unaltered command history reading asked)
 

@@ -29,10 +29,10 @@ use Rattle.waldo_words.specs.declared.faults.WordFault.TheVariants.{Missing, Wor
 use Rattle.wire_line.specs.declared.message.Message.{Message}
 use Rattle.waldo_run.specs.Races.{IsRacing, RaceReplies, RacedIn, RacedOver, begin_race, command_at, crew_of, race_over}
 use Rattle.waldo_run.specs.Replies.{Reply}
-use Rattle.waldo_run.specs.Run.{Change}
 use Rattle.waldo_run.specs.Tasks.{rows_in}
 use Rattle.waldo_run.specs.Words.{command_in}
 use Rattle.waldo_run.proofs.Settings.{is_setting}
+use Rattle.fault_count.specs.Streams.{Change}
 
 -- what is said of the command of words that don't begin with `race`
 pub by_other : (P : Result Command WordFault → Type 0) (words : List (List ℕ)) → begin_race words ≡ false → P (command_in words) → P (command_at words)
@@ -62,7 +62,7 @@ raced_over c crew w rows sent report altered reply race of held few reports said
 
 -- all bytes of an input were read
 pub whole_raced : (c : Common) (crew : Crew) (source : Change) (bytes : List ℕ) (carried : List (List Message) → Type 0) → crew ≡ crew_of c crew.writers crew.askers crew.rounds
-    → Reads most_bytes (Whole bytes) source.old source.new source.before source.now → (result : Result Reply Memory)
+    → Reads most_bytes (Whole bytes) source → (result : Result Reply Memory)
     → IfOk result (λ (reply : Reply). (sent : List (List Message)) × carried sent × RacedIn c crew (rows_in c bytes) sent reply)
     → IfOk result (RaceReplies (Ok (commands.Race c crew.writers crew.askers crew.rounds)) source carried)
 whole_raced c crew source bytes carried same reads (Err memory) h = tt

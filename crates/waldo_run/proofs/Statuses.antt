@@ -17,10 +17,11 @@ use Rattle.waldo_words.specs.declared.command.Command.TheVariants as commands
 use Rattle.waldo_words.specs.declared.faults.WordFault.{WordFault}
 use Rattle.waldo_words.specs.declared.faults.WordFault.TheVariants as faults
 use Rattle.waldo_run.specs.Replies.{Answering, IsRefused, Reply, Suits, after_failed_put, checked_answer, ended, plain_answer, reply_over, reply_to}
-use Rattle.waldo_run.specs.Run.{Asked, AskedIn, Change, HasSchedule, Puts, Refuses, RefusesInput, Replies, Runs, plain_reply}
+use Rattle.waldo_run.specs.Run.{Asked, AskedIn, HasSchedule, Puts, Refuses, RefusesInput, Replies, Runs, plain_reply}
 use Rattle.waldo_run.specs.Tasks.{common_in, rows_in, rows_made, setting_of, task_over}
 use Rattle.waldo_run.proofs.Plain.{plain_reply_to}
 use Rattle.waldo_run.proofs.Told.{long_told, over_told, whole_told}
+use Rattle.fault_count.specs.Streams.{Change}
 
 kept : (n v : ℕ) → v ≢ 4 → v ≡ after_failed_put n → v ≡ n
 kept zero v other e = absurd (other e)
@@ -110,7 +111,7 @@ record Says (command : Result Command WordFault) (reading : Reading) (status : �
   two : status ≡ 2 → IsErr command ⊎ HasSchedule command
   three : status ≡ 3 → reading ≡ Broken
   four : status ≢ 4
-  five : status ≡ 5 → (source : Change) (told : List ℕ) → Reads most_bytes reading source.old source.new source.before source.now → source.old ≡ Some told → Refuses command told
+  five : status ≡ 5 → (source : Change) (told : List ℕ) → Reads most_bytes reading source → source.old ≡ Some told → Refuses command told
 
 refused_says : (fault : WordFault) (reading : Reading) (status : ℕ) → (status ≡ 2) ⊎ (status ≡ 6) → Says (Err fault) reading status
 refused_says fault reading status which = record {
@@ -121,7 +122,7 @@ refused_says fault reading status which = record {
 }
 
 faulty_told : (command : Command) (reading : Reading) (source : Change) (told : List ℕ)
-    → Reads most_bytes reading source.old source.new source.before source.now → Faulty command reading → source.old ≡ Some told → Refuses (Ok command) told
+    → Reads most_bytes reading source → Faulty command reading → source.old ≡ Some told → Refuses (Ok command) told
 faulty_told command Untouched source told reads f e = absurd f
 faulty_told command (Whole bytes) source told reads f e = inr (subst (λ bs. RefusesInput command bs) (whole_told source.old source.new bytes told reads.1 reads.2 e) f)
 faulty_told command Long source told reads f e = inl (omega (arith, long_told source.old source.new reads.0 told reads.2 e, reads.1))
@@ -149,7 +150,7 @@ module _ (order : AskedInOrder) (command : Result Command WordFault) (source sin
 
   pub read_fault_of : status ≡ 3 → Rose source.before source.now
   read_fault_of e =
-      subst (λ (reading : Reading). Reads most_bytes reading source.old source.new source.before source.now) (here.three (own (λ four. omega (arith, e, four)) ∙ e)) run.replies.reads
+      subst (λ (reading : Reading). Reads most_bytes reading source) (here.three (own (λ four. omega (arith, e, four)) ∙ e)) run.replies.reads
 
   pub write_fault_of : status ≡ 4 → Rose sink.before sink.now
   write_fault_of e = elim run.puts [ inl p ↦ absurd (here.four (sym p.0 ∙ e)) | inr p ↦ p.2 ]

@@ -8,8 +8,9 @@ use Rattle.row_source.specs.Input.Reading.{Untouched, Whole, Long, Broken}
 use Rattle.waldo_words.specs.declared.command.Command.{Command}
 use Rattle.waldo_words.specs.declared.faults.WordFault.{WordFault}
 use Rattle.waldo_run.specs.Replies.{Answering, Suits, reply_to}
-use Rattle.waldo_run.specs.Run.{Change, reading_by, reading_of}
+use Rattle.waldo_run.specs.Run.{reading_by, reading_of}
 use Rattle.waldo_run.specs.Tasks.{reads_input}
+use Rattle.fault_count.specs.Streams.{Change}
 
 -- where the source tells its bytes, what was read is these
 pub whole_told : (left now : Option (List ℕ)) (bs told : List ℕ) → Consumes left now bs → IsAtEnd now → left ≡ Some told → bs ≡ told
@@ -37,7 +38,7 @@ long_reading bytes false e h = refl
 
 -- the reading over told bytes, where no read failed
 read_told : (reading : Reading) (source : Change) (told : List ℕ) → reading ≢ Untouched
-    → Reads most_bytes reading source.old source.new source.before source.now → (Rose source.before source.now → ⊥) → source.old ≡ Some told → reading ≡ reading_of told
+    → Reads most_bytes reading source → (Rose source.before source.now → ⊥) → source.old ≡ Some told → reading ≡ reading_of told
 read_told Untouched source told some reads sure e = absurd (some refl)
 read_told (Whole bytes) source told some reads sure e =
     let same : bytes ≡ told = whole_told source.old source.new bytes told reads.1 reads.2 e in
@@ -54,7 +55,7 @@ told_by command reading true told f suits = f suits
 told_by command reading false told f suits = suits
 
 pub over_told : (answer : Answering) (command : Result Command WordFault) (reading : Reading) (source : Change) (told : List ℕ) → Suits command reading
-    → Reads most_bytes reading source.old source.new source.before source.now → (Rose source.before source.now → ⊥) → source.old ≡ Some told
+    → Reads most_bytes reading source → (Rose source.before source.now → ⊥) → source.old ≡ Some told
     → reply_to answer command reading ≡ reply_to answer command (reading_by command told)
 over_told answer (Err fault) reading source told suits reads sure e = refl
 over_told answer (Ok command) reading source told suits reads sure e =

@@ -3,8 +3,8 @@ use Rattle.std.specs.Prelude.{ℕ, ◌+◌, ◌*◌, ◌%◌, ◌^◌, List, len
 use Rattle.list_facts.specs.Listed.{listed}
 use Rattle.table_schema.specs.declared.rows.Row.{Row}
 
--- row i of columns of these bits: the bucket of column c is the number plus i times c + 1, modulo 2^bits, so 0 past the columns; the value is
--- 1000 times the number plus i, modulo 2^32
+-- row i of columns of these bits: the bucket of column c is the number plus i times c + 1, modulo 2^bits, so 0 past the columns; the value
+-- is 1000 times the number plus i, modulo 2^32
 abbrev pub made_row : List ℕ → ℕ → ℕ → Row
 made_row bits number i = record {
   columns = length bits;
@@ -12,6 +12,6 @@ made_row bits number i = record {
   value = pos ((1000 * number + i) % 2 ^ 32);
 }
 
--- so many rows
+-- `count` rows
 abbrev pub made_rows : List ℕ → ℕ → ℕ → List Row
 made_rows bits number count = listed count (made_row bits number)

@@ -19,9 +19,10 @@ use Rattle.waldo_words.specs.declared.command.Command.TheVariants as commands
 use Rattle.waldo_words.specs.declared.faults.WordFault.{WordFault}
 use Rattle.wire_line.specs.declared.message.Message.{Message}
 use Rattle.waldo_run.specs.Replies.{Reply, refusal, row_refusal, single}
-use Rattle.waldo_run.specs.Run.{Change, Puts}
+use Rattle.waldo_run.specs.Run.{Puts}
 use Rattle.waldo_run.specs.Tasks.{rows_in}
 use Rattle.waldo_run.specs.Words.{command_in}
+use Rattle.fault_count.specs.Streams.{Change}
 
 -- the words begin with `race`
 abbrev pub begin_race : List (List ℕ) → Bool
@@ -70,19 +71,19 @@ pub record RacedOver (common : Common) (crew : Crew) (rows : List Row) (sent : L
   pub reports : Reports (race_over common crew widths rows) sent reply.report
   pub status : reply.status ≡ status_of reply.report
 
--- the same where the rows may have a fault: then nothing was sent, and the reply says the fault
+-- a race over rows that may have a fault: then nothing was sent, and the reply says the fault
 abbrev pub RacedIn : Common → Crew → Result (List Row) RowFault → List (List Message) → Reply → Type 0
 RacedIn common crew (Err fault) sent reply = (sent ≡ []) × (reply ≡ row_refusal fault)
 RacedIn common crew (Ok rows) sent reply = RacedOver common crew rows sent reply
 
--- the same over what reading gave: a race reads its input
+-- a race over what reading gave: a race reads its input
 abbrev pub RacedFrom : Common → Crew → Reading → List (List Message) → Reply → Type 0
 RacedFrom common crew Untouched sent reply = ⊥
 RacedFrom common crew Broken sent reply = (sent ≡ []) × (reply ≡ single 3 lines.ReadFault)
 RacedFrom common crew Long sent reply = (sent ≡ []) × (reply ≡ single 5 lines.TooLong)
 RacedFrom common crew (Whole bytes) sent reply = RacedIn common crew (rows_in common bytes) sent reply
 
--- the same for words, which may be refused: then nothing was read or sent. Words that begin with `race` say no other command
+-- what words come to, which may be refused: then nothing was read or sent. Words that begin with `race` say no other command
 abbrev pub RacedBy : Result Command WordFault → Reading → List (List Message) → Reply → Type 0
 RacedBy (Err fault) reading sent reply = (reading ≡ Untouched) × (sent ≡ []) × (reply ≡ refusal fault)
 RacedBy (Ok (commands.Race common writers askers rounds)) reading sent reply =
@@ -94,15 +95,17 @@ RacedBy (Ok (commands.Trace common)) reading sent reply = ⊥
 RacedBy (Ok (commands.Tamper common shifts)) reading sent reply = ⊥
 
 -- The source was met in one of its ways, these messages went over the wires, and the reply is one that a race may come to with them.
-pub record RaceReplies (command : Result Command WordFault) (source : Change) (carried : List (List Message) → Type 0) (reply : Reply) : Type 0 where
+pub record RaceReplies (command : Result Command WordFault) (source : Change) (carried : List (List Message) → Type 0)
+    (reply : Reply) : Type 0 where
   pub reading : Reading
-  pub reads : Reads most_bytes reading source.old source.new source.before source.now
+  pub reads : Reads most_bytes reading source
   pub sent : List (List Message)
   pub went : carried sent
   pub raced : RacedBy command reading sent reply
 
--- The whole race, but for want of memory: such a reply, put into the sink.
-pub record Races (command : Result Command WordFault) (source : Change) (carried : List (List Message) → Type 0) (sink : Change) (status : ℕ) : Type 0 where
+-- The whole race, unless out of memory: such a reply, put into the sink.
+pub record Races (command : Result Command WordFault) (source : Change) (carried : List (List Message) → Type 0)
+    (sink : Change) (status : ℕ) : Type 0 where
   pub reply : Reply
   pub replies : RaceReplies command source carried reply
   pub puts : Puts reply sink status

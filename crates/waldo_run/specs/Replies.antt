@@ -59,7 +59,7 @@ abbrev pub ended : Result Stage ℕ → Reply
 ended (Ok stage) = record { status = if stage.altered then 7 else 0; report = stage.lines }
 ended (Err t) = single 2 (lines.BadStep t)
 
--- the reply to what steps came to, as the code has it; for want of memory there is none
+-- the reply to what steps came to, as the code has it; out of memory there is none
 abbrev pub IsReplyOf : Result Played PlayFault → Reply → Type 0
 IsReplyOf (Ok p) reply = reply ≡ record { status = if p.altered then 7 else 0; report = p.report }
 IsReplyOf (Err (NotAllowed t)) reply = reply ≡ single 2 (lines.BadStep t)
@@ -72,7 +72,8 @@ Answering = Task → Reply
 abbrev pub checked_answer : List Done → Answering
 checked_answer history task = ended (played (opened_in history) task)
 
--- rows that are appended and then asked: the plain answer of each query over all of them; a schedule: the core's replies, with each answer plain
+-- rows that are appended and then asked: the plain answer of each query over all of them; a schedule: the core's replies, with each answer
+-- plain
 abbrev pub plain_in : Style → Task → Reply
 plain_in Queries task = record { status = 0; report = plain_lines task.setting.rows 0 task.setting.queries }
 plain_in Rounds task = ended (played (plainly task.setting) task)

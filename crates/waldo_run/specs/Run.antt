@@ -19,16 +19,7 @@ use Rattle.waldo_words.specs.declared.command.Command.TheVariants as commands
 use Rattle.waldo_words.specs.declared.faults.WordFault.{WordFault}
 use Rattle.waldo_run.specs.Replies.{Reply, IsRefused, Suits, after_failed_put, checked_answer, plain_answer, reply_over, reply_to}
 use Rattle.waldo_run.specs.Tasks.{AreWidthsIn, common_in, reads_input, rows_in, rows_made, task_over}
-
--- an object over a call: the bytes that it tells and its count of faults, each before and after
-pub record Change : Type 0 where
-  pub old : Option (List ℕ)
-  pub new : Option (List ℕ)
-  pub before : ℕ
-  pub now : ℕ
-
-abbrev pub change : {A : Type 0} → (A → Option (List ℕ)) → (A → ℕ) → A → A → Change
-change told faults before now = record { old = told before; new = told now; before = faults before; now = faults now }
+use Rattle.fault_count.specs.Streams.{Change}
 
 -- The steps of a command over its rows, with the messages of each answer and what they opened. An unaltered wire changed no message; and
 -- each answer whose messages were not changed opened the plain one, whatever was altered before.
@@ -40,7 +31,7 @@ pub record AskedOver (unaltered : ℕ → Type 0) (command : Command) (history :
   pub honest : AreHonest unaltered history
   pub plain : ArePlain (task_over command rows).setting (task_over command rows).style first_stage history
 
--- the same where the rows may have a fault: then no step was done
+-- the steps of a command over rows that may have a fault: then no step was done
 abbrev pub AskedIn : (ℕ → Type 0) → Command → List Done → Result (List Row) RowFault → Type 0
 AskedIn unaltered command history (Err fault) = history ≡ []
 AskedIn unaltered command history (Ok rows) = AskedOver unaltered command history rows
@@ -53,11 +44,13 @@ Asked unaltered (Ok command) history Broken = history ≡ []
 Asked unaltered (Ok command) history Long = history ≡ []
 Asked unaltered (Ok command) history (Whole bytes) = AskedIn unaltered command history (rows_in (common_in command) bytes)
 
--- The source was met in this way, the wires carried the messages of the steps that belong to it, and the reply is the one to what they opened.
-pub record Replies (command : Result Command WordFault) (source : Change) (carried : List Done → Type 0) (unaltered : ℕ → Type 0) (reply : Reply) : Type 0 where
+-- The source was met in this way, the wires carried the messages of the steps that belong to it, and the reply is the one to what they
+-- opened.
+pub record Replies (command : Result Command WordFault) (source : Change) (carried : List Done → Type 0)
+    (unaltered : ℕ → Type 0) (reply : Reply) : Type 0 where
   pub reading : Reading
   pub suits : Suits command reading
-  pub reads : Reads most_bytes reading source.old source.new source.before source.now
+  pub reads : Reads most_bytes reading source
   pub history : List Done
   pub sent : carried history
   pub asked : Asked unaltered command history reading
@@ -74,7 +67,7 @@ abbrev pub BegunIn : Command → List Done → Result (List Row) RowFault → Ty
 BegunIn command history (Err fault) = history ≡ []
 BegunIn command history (Ok rows) = BegunOver command history rows
 
--- the steps that were begun when memory was lacking: none, or first steps over what reading gave
+-- the steps that were begun when memory ran out: none, or first steps over what reading gave
 abbrev pub BegunAt : Command → List Done → Reading → Type 0
 BegunAt command history Untouched = BegunIn command history (Ok (rows_made command))
 BegunAt command history Broken = history ≡ []
@@ -84,17 +77,18 @@ BegunAt command history (Whole bytes) = BegunIn command history (rows_in (common
 abbrev pub Begun : Result Command WordFault → List Done → Change → Type 0
 Begun (Err fault) history source = history ≡ []
 Begun (Ok command) history source =
-    (history ≡ []) ⊎ ((reading : Reading) × Suits (Ok command) reading × Reads most_bytes reading source.old source.new source.before source.now × BegunAt command history reading)
+    (history ≡ []) ⊎ ((reading : Reading) × Suits (Ok command) reading × Reads most_bytes reading source × BegunAt command history reading)
 
--- For want of memory the wires carried the first of the messages that the command has, if any.
+-- Out of memory, the wires carried the first of the messages that the command has, if any.
 pub record Breaks (command : Result Command WordFault) (source : Change) (carried : List Done → Type 0) : Type 0 where
   pub history : List Done
   pub sent : carried history
   pub begun : Begun command history source
 
--- What a command comes to over rows, which may have a fault: the messages of its steps over the wires, and its reply to what they opened; or for
--- want of memory the messages of first steps.
-pub record Answers (command : Command) (rows : Result (List Row) RowFault) (carried : List Done → Type 0) (unaltered : ℕ → Type 0) (result : Result Reply Memory) : Type 0 where
+-- What a command comes to over rows, which may have a fault: the messages of its steps over the wires, and its reply to what they opened;
+-- or, out of memory, the messages of first steps.
+pub record Answers (command : Command) (rows : Result (List Row) RowFault) (carried : List Done → Type 0)
+    (unaltered : ℕ → Type 0) (result : Result Reply Memory) : Type 0 where
   pub history : List Done
   pub sent : carried history
   pub begun : OnErr result (BegunIn command history rows)
@@ -108,8 +102,9 @@ Puts reply sink status =
     ((status ≡ reply.status) × Appends sink.old sink.new (text_of reply.report) × (sink.now ≡ sink.before))
     ⊎ ((status ≡ after_failed_put reply.status) × AppendsFront sink.old sink.new (text_of reply.report) × Rose sink.before sink.now)
 
--- The whole run, but for want of memory: some reply to what reading gave, put into the sink. Where no wire was altered it is the plain one.
-pub record Runs (command : Result Command WordFault) (source : Change) (carried : List Done → Type 0) (unaltered : ℕ → Type 0) (sink : Change) (status : ℕ) : Type 0 where
+-- The whole run, unless out of memory: some reply to what reading gave, put into the sink. Where no wire was altered it is the plain one.
+pub record Runs (command : Result Command WordFault) (source : Change) (carried : List Done → Type 0)
+    (unaltered : ℕ → Type 0) (sink : Change) (status : ℕ) : Type 0 where
   pub reply : Reply
   pub replies : Replies command source carried unaltered reply
   pub plain : ((actor : ℕ) → unaltered actor) → reply ≡ reply_to plain_answer command replies.reading
@@ -123,7 +118,7 @@ IsUnchanged sink = Keeps sink.old sink.new × (sink.now ≡ sink.before)
 abbrev pub reading_of : List ℕ → Reading
 reading_of bytes = if nat_le (length bytes) most_bytes then Whole bytes else Long
 
--- the same, by words that may be refused or read nothing
+-- how words that may be refused or read nothing meet an input of these bytes
 abbrev pub reading_by : Result Command WordFault → List ℕ → Reading
 reading_by (Err fault) bytes = Untouched
 reading_by (Ok command) bytes = if reads_input command then reading_of bytes else Untouched

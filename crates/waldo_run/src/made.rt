@@ -36,7 +36,7 @@ fn made_row(widths: &Widths, number: u32, i: u32) -> Row
     }
 }
 
-/// So many rows, made by a number. The only error is want of memory.
+/// `count` rows, made by a number. The only error is out of memory.
 pub(crate) fn made_rows(
     alloc: Global,
     widths: &Widths,

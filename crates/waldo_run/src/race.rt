@@ -1,8 +1,7 @@
 //! A run of `race`, from bytes in to bytes out.
 ghost use Rattle.std.specs.Prelude.{◌≡◌, ◌≢◌, ◌≤◌, true, All, List, if◌then◌else◌, map, string_bytes, Ok, IfOk, IfSome, IsErr, length};
-ghost use Rattle.fault_count.specs.Causes.{Rose};
 ghost use Rattle.query_plan.specs.Query.{AreWidthsOf};
-ghost use Rattle.race_play.specs.Askers.{WentEach};
+ghost use Rattle.race_play.specs.Askers.{CarriedEach};
 ghost use Rattle.table_schema.specs.Widths.{Holds};
 ghost use Rattle.waldo_words.specs.Legal.{IsLegal, IsRace};
 ghost use Rattle.waldo_words.specs.Words.{command_of};
@@ -10,8 +9,9 @@ ghost use Rattle.waldo_words.specs.declared.command.Command.TheVariants as comma
 ghost use Rattle.wire_line.specs.Lists.{SomeRose};
 ghost use Rattle.wire_line.specs.declared.message.Message.{Message};
 ghost use Rattle.waldo_run.specs.Races.{IsRacing, RaceReplies, RacedIn, RacedOver, Races, begin_race, crew_of};
-ghost use Rattle.waldo_run.specs.Run.{IsUnchanged, ReadsNothing, Refuses, change};
+ghost use Rattle.waldo_run.specs.Run.{IsUnchanged, ReadsNothing, Refuses};
 ghost use Rattle.waldo_run.specs.Tasks.{rows_in};
+ghost use Rattle.fault_count.specs.Streams.{HasFailed, change};
 
 use crate::finish::finish;
 use crate::refusals::{refused_rows, refused_words, unread_input};
@@ -52,9 +52,9 @@ fn race_rows<R: Threads + Wait + Sync, W: Wire + Send, G: Gate + Sync>(
     requires few { length rows.now ≤ common.now.capacity }
     requires wires { length wires.old.items ≡ 16 }
     ensures wires { length wires.new.items ≡ 16 }
-    ensures raced { IfOk result (λ reply. (sent : List (List Message)) × WentEach W.told W.alterations W.passes sent wires.old.items wires.new.items
+    ensures raced { IfOk result (λ reply. (sent : List (List Message)) × CarriedEach W.sight wires.old.items wires.new.items sent
         × RacedOver common.now crew rows.now sent reply) }
-    ensures accepted { ¬ SomeRose W.alterations wires.old.items wires.new.items → IfOk result (λ reply. reply.status ≢ 7) }
+    ensures accepted { ¬ SomeRose W.sight wires.old.items wires.new.items → IfOk result (λ reply. reply.status ≢ 7) }
 {
     let setting = Race {
         widths: *widths,
@@ -81,9 +81,9 @@ fn race_bytes<R: Threads + Wait + Sync, W: Wire + Send, G: Gate + Sync>(
     requires workers { crew.workers ≡ common.now.workers }
     requires wires { length wires.old.items ≡ 16 }
     ensures wires { length wires.new.items ≡ 16 }
-    ensures raced { IfOk result (λ reply. (sent : List (List Message)) × WentEach W.told W.alterations W.passes sent wires.old.items wires.new.items
+    ensures raced { IfOk result (λ reply. (sent : List (List Message)) × CarriedEach W.sight wires.old.items wires.new.items sent
         × RacedIn common.now crew (rows_in common.now bytes.items) sent reply) }
-    ensures accepted { ¬ SomeRose W.alterations wires.old.items wires.new.items → IfOk result (λ reply. reply.status ≢ 7) }
+    ensures accepted { ¬ SomeRose W.sight wires.old.items wires.new.items → IfOk result (λ reply. reply.status ≢ 7) }
 {
     let widths = common.schema.widths();
     let rows = read_rows(alloc, &common.schema, common.capacity, &bytes);
@@ -108,9 +108,9 @@ fn race_input<R: Threads + Wait + Sync, S: Source, W: Wire + Send, G: Gate + Syn
     requires crew { crew ≡ crew_of common.now crew.writers crew.askers crew.rounds }
     requires wires { length wires.old.items ≡ 16 }
     ensures wires { length wires.new.items ≡ 16 }
-    ensures raced { IfOk result (RaceReplies (Ok (commands.Race common.now crew.writers crew.askers crew.rounds)) (change S.left S.fault_count source.old source.new)
-        (λ sent. WentEach W.told W.alterations W.passes sent wires.old.items wires.new.items)) }
-    ensures accepted { ¬ SomeRose W.alterations wires.old.items wires.new.items → IfOk result (λ reply. reply.status ≢ 7) }
+    ensures raced { IfOk result (RaceReplies (Ok (commands.Race common.now crew.writers crew.askers crew.rounds))
+        (change S.sight source.old source.new) (CarriedEach W.sight wires.old.items wires.new.items)) }
+    ensures accepted { ¬ SomeRose W.sight wires.old.items wires.new.items → IfOk result (λ reply. reply.status ≢ 7) }
 {
     match read_all(alloc, source) {
         Ok(bytes) => race_bytes(rt, alloc, common, crew, bytes, gate, wires),
@@ -131,10 +131,10 @@ fn race_command<R: Threads + Wait + Sync, S: Source, W: Wire + Send, G: Gate + S
     requires racing { IsRacing command.now }
     requires wires { length wires.old.items ≡ 16 }
     ensures wires { length wires.new.items ≡ 16 }
-    ensures raced { IfOk result (RaceReplies (Ok command.now) (change S.left S.fault_count source.old source.new)
-        (λ sent. WentEach W.told W.alterations W.passes sent wires.old.items wires.new.items)) }
-    ensures unread { ReadsNothing (Ok command.now) → IsUnchanged (change S.left S.fault_count source.old source.new) }
-    ensures accepted { ¬ SomeRose W.alterations wires.old.items wires.new.items → IfOk result (λ reply. reply.status ≢ 7) }
+    ensures raced { IfOk result (RaceReplies (Ok command.now) (change S.sight source.old source.new)
+        (CarriedEach W.sight wires.old.items wires.new.items)) }
+    ensures unread { ReadsNothing (Ok command.now) → IsUnchanged (change S.sight source.old source.new) }
+    ensures accepted { ¬ SomeRose W.sight wires.old.items wires.new.items → IfOk result (λ reply. reply.status ≢ 7) }
 {
     match command {
         Command::Race {
@@ -171,10 +171,10 @@ fn race_words<R: Threads + Wait + Sync, S: Source, W: Wire + Send, G: Gate + Syn
     requires begins { begin_race (map string_bytes words.now) ≡ true }
     requires wires { length wires.old.items ≡ 16 }
     ensures wires { length wires.new.items ≡ 16 }
-    ensures raced { IfOk result (RaceReplies (command_of (map string_bytes words.now)) (change S.left S.fault_count source.old source.new)
-        (λ sent. WentEach W.told W.alterations W.passes sent wires.old.items wires.new.items)) }
-    ensures unread { ReadsNothing (command_of (map string_bytes words.now)) → IsUnchanged (change S.left S.fault_count source.old source.new) }
-    ensures accepted { ¬ SomeRose W.alterations wires.old.items wires.new.items → IfOk result (λ reply. reply.status ≢ 7) }
+    ensures raced { IfOk result (RaceReplies (command_of (map string_bytes words.now)) (change S.sight source.old source.new)
+        (CarriedEach W.sight wires.old.items wires.new.items)) }
+    ensures unread { ReadsNothing (command_of (map string_bytes words.now)) → IsUnchanged (change S.sight source.old source.new) }
+    ensures accepted { ¬ SomeRose W.sight wires.old.items wires.new.items → IfOk result (λ reply. reply.status ≢ 7) }
 {
     match read_words(alloc, words) {
         Ok(command) => race_command(rt, alloc, &command, source, gate, wires),
@@ -202,15 +202,15 @@ pub(crate) fn run_race<
     requires begins { begin_race (map string_bytes words.now) ≡ true }
     requires wires { length wires.old.items ≡ 16 }
     ensures wires { length wires.new.items ≡ 16 }
-    ensures memory { result ≡ 6 → IsUnchanged (change K.taken K.fault_count sink.old sink.new) }
-    ensures raced { result ≢ 6 → Races (command_of (map string_bytes words.now)) (change S.left S.fault_count source.old source.new)
-        (λ sent. WentEach W.told W.alterations W.passes sent wires.old.items wires.new.items) (change K.taken K.fault_count sink.old sink.new) result }
+    ensures memory { result ≡ 6 → IsUnchanged (change K.sight sink.old sink.new) }
+    ensures raced { result ≢ 6 → Races (command_of (map string_bytes words.now)) (change S.sight source.old source.new)
+        (CarriedEach W.sight wires.old.items wires.new.items) (change K.sight sink.old sink.new) result }
     ensures refused { result ≡ 2 → IsErr (command_of (map string_bytes words.now)) }
-    ensures unread { ReadsNothing (command_of (map string_bytes words.now)) → IsUnchanged (change S.left S.fault_count source.old source.new) }
-    ensures read_fault { result ≡ 3 → Rose (S.fault_count source.old) (S.fault_count source.new) }
-    ensures write_fault { result ≡ 4 → Rose (K.fault_count sink.old) (K.fault_count sink.new) }
-    ensures input { result ≡ 5 → IfSome (S.left source.old) (Refuses (command_of (map string_bytes words.now))) }
-    ensures altered { result ≡ 7 → SomeRose W.alterations wires.old.items wires.new.items }
+    ensures unread { ReadsNothing (command_of (map string_bytes words.now)) → IsUnchanged (change S.sight source.old source.new) }
+    ensures read_fault { result ≡ 3 → HasFailed S.sight source.old source.new }
+    ensures write_fault { result ≡ 4 → HasFailed K.sight sink.old sink.new }
+    ensures input { result ≡ 5 → IfSome (S.sight.bytes source.old) (Refuses (command_of (map string_bytes words.now))) }
+    ensures altered { result ≡ 7 → SomeRose W.sight wires.old.items wires.new.items }
 {
     match race_words(rt, alloc, words, source, gate, wires) {
         Err(_) => 6,

@@ -3,8 +3,7 @@ ghost use Rattle.std.specs.Prelude.{◌≡◌, ◌≢◌, ◌≤◌, All, IfOk, 
 ghost use Rattle.schedule_play.specs.History.{Done};
 ghost use Rattle.schedule_play.specs.Plays.{Plays, seen};
 ghost use Rattle.schedule_play.specs.Tasks.{IsSetting};
-ghost use Rattle.schedule_play.specs.Wires.{WiresWent};
-ghost use Rattle.wire_line.specs.Lists.{RoseAt};
+ghost use Rattle.schedule_play.specs.Wires.{Carried, Unaltered};
 ghost use Rattle.table_schema.specs.Widths.{Holds};
 ghost use Rattle.waldo_run.specs.Replies.{IsReplyOf, checked_answer};
 ghost use Rattle.waldo_run.specs.Run.{AskedOver, BegunOver};
@@ -62,7 +61,8 @@ fn play<R: Threads + Sync, W: Wire>(
     requires setting { IsSetting widths.now (task_over command.now rows.now).setting }
     requires wires { length wires.old.items ≡ 16 }
     ensures wires { length wires.new.items ≡ 16 }
-    ensures plays { Plays widths.now (task_over command.now rows.now) (λ history. WiresWent W.told W.alterations W.passes history 0 wires.old.items wires.new.items) (λ actor. ¬ RoseAt W.alterations actor wires.old.items wires.new.items) result }
+    ensures plays { Plays widths.now (task_over command.now rows.now)
+        (Carried W.sight wires.old.items wires.new.items) (Unaltered W.sight wires.old.items wires.new.items) result }
 {
     match command {
         Command::Ask(common) => ask(rt, alloc, &setting(common, widths, rows), wires),
@@ -80,7 +80,7 @@ fn play<R: Threads + Sync, W: Wire>(
     }
 }
 
-/// The reply of a command to its rows: that of its steps, whose answers go over the wires. The only error is want of memory; the
+/// The reply of a command to its rows: that of its steps, whose answers go over the wires. The only error is out of memory; the
 /// first messages of the steps may then have been carried.
 pub(crate) fn answer_rows<R: Threads + Sync, W: Wire>(
     rt: &R,
@@ -97,11 +97,11 @@ pub(crate) fn answer_rows<R: Threads + Sync, W: Wire>(
     requires few { let common = common_in command.now in length rows.now ≤ common.capacity }
     requires wires { length wires.old.items ≡ 16 }
     ensures wires { length wires.new.items ≡ 16 }
-    ensures asked { (history : List Done) × WiresWent W.told W.alterations W.passes history 0 wires.old.items wires.new.items
+    ensures asked { (history : List Done) × Carried W.sight wires.old.items wires.new.items history
         × OnErr result (BegunOver command.now history rows.now)
-        × IfOk result (λ reply. AskedOver (λ actor. ¬ RoseAt W.alterations actor wires.old.items wires.new.items) command.now history rows.now
+        × IfOk result (λ reply. AskedOver (Unaltered W.sight wires.old.items wires.new.items) command.now history rows.now
         × (reply ≡ checked_answer history (task_over command.now rows.now))
-        × (((actor : ℕ) → ¬ RoseAt W.alterations actor wires.old.items wires.new.items) → reply.status ≢ 7)) }
+        × (((actor : ℕ) → Unaltered W.sight wires.old.items wires.new.items actor) → reply.status ≢ 7)) }
 {
     let played = play(rt, alloc, command, widths, rows, wires);
     reply_of(alloc, played)

@@ -1,11 +1,11 @@
 //! The top call: `race`, and every other command.
 ghost use Rattle.std.specs.Prelude.{◌≡◌, ◌≢◌, ◌⊎◌, true, false, map, string_bytes, IfSome, IsErr, length};
-ghost use Rattle.fault_count.specs.Causes.{Rose};
-ghost use Rattle.race_play.specs.Askers.{WentEach};
-ghost use Rattle.schedule_play.specs.Wires.{WiresWent};
-ghost use Rattle.wire_line.specs.Lists.{RoseAt, SomeRose};
+ghost use Rattle.wire_line.specs.Lists.{SomeRose};
 ghost use Rattle.waldo_run.specs.Races.{Races, begin_race, command_at};
-ghost use Rattle.waldo_run.specs.Run.{Breaks, HasSchedule, IsUnchanged, Puts, ReadsNothing, Refuses, Runs, change, plain_reply};
+ghost use Rattle.waldo_run.specs.Run.{Breaks, HasSchedule, IsUnchanged, Puts, ReadsNothing, Refuses, Runs, plain_reply};
+ghost use Rattle.fault_count.specs.Streams.{HasFailed, change};
+ghost use Rattle.schedule_play.specs.Wires.{Carried, Unaltered};
+ghost use Rattle.race_play.specs.Askers.{CarriedEach};
 
 use crate::race::run_race;
 use crate::still::run_still;
@@ -32,23 +32,31 @@ pub fn run<R: Threads + Wait + Sync, S: Source, K: Sink, W: Wire + Send, G: Gate
 ) -> u8
     requires wires { length wires.old.items ≡ 16 }
     ensures wires { length wires.new.items ≡ 16 }
-    // For want of memory nothing is put.
-    ensures memory { result ≡ 6 → IsUnchanged (change K.taken K.fault_count sink.old sink.new) }
+    // Out of memory nothing is put.
+    ensures memory { result ≡ 6 → IsUnchanged (change K.sight sink.old sink.new) }
     // Every command but `race`: as `run_still` says.
-    ensures broken { begin_race (map string_bytes words.now) ≡ false → result ≡ 6 → Breaks (command_at (map string_bytes words.now)) (change S.left S.fault_count source.old source.new) (λ history. WiresWent W.told W.alterations W.passes history 0 wires.old.items wires.new.items) }
-    ensures run { begin_race (map string_bytes words.now) ≡ false → result ≢ 6 → Runs (command_at (map string_bytes words.now)) (change S.left S.fault_count source.old source.new) (λ history. WiresWent W.told W.alterations W.passes history 0 wires.old.items wires.new.items) (λ actor. ¬ RoseAt W.alterations actor wires.old.items wires.new.items) (change K.taken K.fault_count sink.old sink.new) result }
-    ensures plain { begin_race (map string_bytes words.now) ≡ false → result ≢ 6 → ¬ Rose (S.fault_count source.old) (S.fault_count source.new) → ¬ SomeRose W.alterations wires.old.items wires.new.items → IfSome (S.left source.old) (λ bytes.
-        Puts (plain_reply (command_at (map string_bytes words.now)) bytes) (change K.taken K.fault_count sink.old sink.new) result) }
+    ensures broken { begin_race (map string_bytes words.now) ≡ false → result ≡ 6
+        → Breaks (command_at (map string_bytes words.now)) (change S.sight source.old source.new)
+        (Carried W.sight wires.old.items wires.new.items) }
+    ensures run { begin_race (map string_bytes words.now) ≡ false → result ≢ 6
+        → Runs (command_at (map string_bytes words.now)) (change S.sight source.old source.new)
+        (Carried W.sight wires.old.items wires.new.items) (Unaltered W.sight wires.old.items wires.new.items)
+        (change K.sight sink.old sink.new) result }
+    ensures plain { begin_race (map string_bytes words.now) ≡ false → result ≢ 6 → ¬ HasFailed S.sight source.old source.new
+        → ¬ SomeRose W.sight wires.old.items wires.new.items → IfSome (S.sight.bytes source.old) (λ bytes.
+        Puts (plain_reply (command_at (map string_bytes words.now)) bytes) (change K.sight sink.old sink.new) result) }
     // A race: the source was met in one of its ways, each asker's messages went over its wire, and a report was put that a race over the
     // input's rows may come to with these messages; or the line of what was refused was put, and the wires are as they were.
-    ensures raced { begin_race (map string_bytes words.now) ≡ true → result ≢ 6 → Races (command_at (map string_bytes words.now)) (change S.left S.fault_count source.old source.new) (λ sent. WentEach W.told W.alterations W.passes sent wires.old.items wires.new.items) (change K.taken K.fault_count sink.old sink.new) result }
+    ensures raced { begin_race (map string_bytes words.now) ≡ true → result ≢ 6
+        → Races (command_at (map string_bytes words.now)) (change S.sight source.old source.new)
+        (CarriedEach W.sight wires.old.items wires.new.items) (change K.sight sink.old sink.new) result }
     // Whatever the command is, each status has its cause.
     ensures refused { result ≡ 2 → IsErr (command_at (map string_bytes words.now)) ⊎ HasSchedule (command_at (map string_bytes words.now)) }
-    ensures unread { ReadsNothing (command_at (map string_bytes words.now)) → IsUnchanged (change S.left S.fault_count source.old source.new) }
-    ensures read_fault { result ≡ 3 → Rose (S.fault_count source.old) (S.fault_count source.new) }
-    ensures write_fault { result ≡ 4 → Rose (K.fault_count sink.old) (K.fault_count sink.new) }
-    ensures input { result ≡ 5 → IfSome (S.left source.old) (Refuses (command_at (map string_bytes words.now))) }
-    ensures altered { result ≡ 7 → SomeRose W.alterations wires.old.items wires.new.items }
+    ensures unread { ReadsNothing (command_at (map string_bytes words.now)) → IsUnchanged (change S.sight source.old source.new) }
+    ensures read_fault { result ≡ 3 → HasFailed S.sight source.old source.new }
+    ensures write_fault { result ≡ 4 → HasFailed K.sight sink.old sink.new }
+    ensures input { result ≡ 5 → IfSome (S.sight.bytes source.old) (Refuses (command_at (map string_bytes words.now))) }
+    ensures altered { result ≡ 7 → SomeRose W.sight wires.old.items wires.new.items }
 {
     if begin_race(words) {
         run_race(rt, alloc, words, source, sink, wires, gate)

@@ -20,12 +20,15 @@ rows_of w p = record { widths = w; all = take p.floor p.sight.order }
 -- an ask that agreed on the rows of the new floor, whose query was carried and opened a pair that the check accepts or refuses; or a
 -- server lacked a row, and nothing was carried; or memory ran out, before the three agreed, or after that with the first messages carried
 abbrev pub Asked : Widths → PassView → PassView → Query → Seed → List Message → OpenedPair → Result Answered AskFault → Type 0
-Asked w p q query seed ms pair (Ok a) = Agrees w p q (rows_of w q) × Opens (rows_of w q) query seed ms pair × (judged query seed pair ≡ Ok a.total) × (a.rows ≡ q.floor)
+Asked w p q query seed ms pair (Ok a) =
+    Agrees w p q (rows_of w q) × Opens (rows_of w q) query seed ms pair × (judged query seed pair ≡ Ok a.total) × (a.rows ≡ q.floor)
 Asked w p q query seed ms pair (Err (ask.Altered total weighted)) =
-    Agrees w p q (rows_of w q) × Opens (rows_of w q) query seed ms pair × (judged query seed pair ≡ Err (record { total = total; weighted = weighted }))
+    Agrees w p q (rows_of w q) × Opens (rows_of w q) query seed ms pair
+    × (judged query seed pair ≡ Err (record { total = total; weighted = weighted }))
     × (pair ≡ record { total = total; weighted = weighted })
 Asked w p q query seed ms pair (Err (ask.Again k had least)) = (ms ≡ []) × (q.floor ≡ p.floor) × Lacks p q k had least
-Asked w p q query seed ms pair (Err ask.Memory) = ((ms ≡ []) × (q.floor ≡ p.floor)) ⊎ (Agrees w p q (rows_of w q) × IsPart (setup_over (rows_of w q) query seed) ms)
+Asked w p q query seed ms pair (Err ask.Memory) =
+    ((ms ≡ []) × (q.floor ≡ p.floor)) ⊎ (Agrees w p q (rows_of w q) × IsPart (setup_over (rows_of w q) query seed) ms)
 
 abbrev pub IsPlainAsk : Widths → PassView → Query → Result Answered AskFault → Type 0
 IsPlainAsk w q query (Ok a) = a.total ≡ plain_total (rows_of w q) query

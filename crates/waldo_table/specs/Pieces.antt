@@ -45,7 +45,8 @@ pub record HasSeen (id : TableId) (x : ℕ) (s : lock.Seen) : Type 0 where
   pub idle : s.holds ≡ false
   pub seen : has x s.seen ≡ true
 
--- what a draw at place x keeps for server k: the piece of the entry; once that is placed, a seat at the server's lock that has seen the place
+-- what a draw at place x keeps for server k: the piece of the entry; once that is placed, a seat at the server's lock that has seen the
+-- place
 pub record IsAt (w : Widths) (e : Row × Seed) (x : ℕ) (k : ℕ) (id : TableId) (a : AtServer) : Type 0 where
   pub left : (p : Piece) → a ≡ at.Left p → IsPieceOf w e k p
   pub placed : (s : lock.Seen) → a ≡ at.Placed s → HasSeen id x s

@@ -91,7 +91,7 @@ abbrev pub IsAgreeFault : PassView → PassView → AgreeFault → Type 0
 IsAgreeFault p q (agree.Again k had floor) = Lacks p q k had floor
 IsAgreeFault p q agree.Memory = ⊤
 
--- want of memory
+-- the fault is out of memory
 abbrev pub IsMemory : AgreeFault → Type 0
 IsMemory (agree.Again k had floor) = ⊥
 IsMemory agree.Memory = ⊤
@@ -124,7 +124,13 @@ fresh_seat s = record s { looks = 0; tries = 0 }
 
 -- a pass that has seen as much, with this room
 abbrev pub fresh_pass : PassView → ℕ → PassView
-fresh_pass p room = record { sight = record p.sight { room = room; own = []; looks = 0 }; zero = fresh_seat p.zero; one = fresh_seat p.one; two = fresh_seat p.two; floor = p.floor }
+fresh_pass p room = record {
+  sight = record p.sight { room = room; own = []; looks = 0 };
+  zero = fresh_seat p.zero;
+  one = fresh_seat p.one;
+  two = fresh_seat p.two;
+  floor = p.floor;
+}
 
 -- a seat that took another in
 abbrev pub joined_seat : lock.Seen → lock.Seen → lock.Seen
@@ -133,7 +139,11 @@ joined_seat a b = record a { seen = longer a.seen b.seen }
 -- a pass that took another in
 abbrev pub gathered : PassView → PassView → PassView
 gathered p q = record {
-  sight = record p.sight { order = longer p.sight.order q.sight.order; room = p.sight.room + q.sight.room; own = p.sight.own ++ q.sight.own };
+  sight = record p.sight {
+    order = longer p.sight.order q.sight.order;
+    room = p.sight.room + q.sight.room;
+    own = p.sight.own ++ q.sight.own;
+  };
   zero = joined_seat p.zero q.zero;
   one = joined_seat p.one q.one;
   two = joined_seat p.two q.two;
@@ -150,7 +160,7 @@ met p q = record {
   floor = max p.floor q.floor;
 }
 
--- why no table was made: it would have this many cells, which is too many or none; want of memory is free
+-- why no table was made: it would have this many cells, which is too many or none; out of memory may come at any time
 abbrev pub HasOpenFault : Widths → ℕ → OpenFault → Type 0
 HasOpenFault w capacity (open_faults.Cells had) = (¬ Fits (column_bits w) capacity) × (had ≡ cells_of (column_bits w) capacity)
 HasOpenFault w capacity open_faults.Memory = ⊤

@@ -1,6 +1,5 @@
 //! Agreement and answer in one call.
 ghost use Rattle.std.specs.Prelude.{◌≡◌, ◌<◌, List};
-ghost use Rattle.fault_count.specs.Causes.{Rose};
 ghost use Rattle.query_plan.specs.Query.{Suits};
 ghost use Rattle.server_rounds.specs.declared.opened.OpenedPair.{OpenedPair};
 ghost use Rattle.ticket_place.specs.Sights.{IsSound};
@@ -8,6 +7,7 @@ ghost use Rattle.wire_line.specs.Messages.{IsHonest, Went};
 ghost use Rattle.wire_line.specs.declared.message.Message.{Message};
 ghost use Rattle.waldo_table.specs.Asks.{Asked, IsNeverAgain, IsPlainAsk};
 ghost use Rattle.waldo_table.specs.Tables.{Grows, IsCovered, IsOf};
+ghost use Rattle.wire_line.specs.Sights.{HasAltered};
 
 use crate::faults::AskFault;
 use crate::pass::Pass;
@@ -44,10 +44,10 @@ impl Table {
         ensures grows { Grows pass.old pass.new }
         ensures sight { pass.new.sight ≡ record pass.old.sight { order = pass.new.sight.order } }
         ensures sound { IsSound pass.new.sight }
-        ensures asked { (ms : List Message) × (pair : OpenedPair) × Went W.told W.alterations W.passes wire.old ms wire.new
+        ensures asked { (ms : List Message) × (pair : OpenedPair) × Went W.sight wire.old ms wire.new
             × Asked self.now.widths pass.old pass.new query.now seed.now ms pair result
             × (IsHonest ms → IsPlainAsk self.now.widths pass.new query.now result) }
-        ensures plain { ¬ Rose (W.alterations wire.old) (W.alterations wire.new) → IsPlainAsk self.now.widths pass.new query.now result }
+        ensures plain { ¬ HasAltered W.sight wire.old wire.new → IsPlainAsk self.now.widths pass.new query.now result }
         ensures never { IsCovered pass.old → IsNeverAgain result }
     {
         let agreed = match self.agree(rt, alloc, pass) {

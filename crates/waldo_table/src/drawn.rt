@@ -29,7 +29,14 @@ impl Model for Drawn {
 
     ghost Value = { Placing };
 
-    ghost view = { λ d. record { table = d.table.value; entry = (d.row, d.seed); place = d.place; zero = was_placed d.zero; one = was_placed d.one; two = was_placed d.two } };
+    ghost view = { λ d. record {
+      table = d.table.value;
+      entry = (d.row, d.seed);
+      place = d.place;
+      zero = was_placed d.zero;
+      one = was_placed d.one;
+      two = was_placed d.two;
+    } };
 
     ghost invariant = { λ d. HasParts d.table.value (d.row, d.seed) d.place d.zero d.one d.two × (d.place < 65536) };
 }

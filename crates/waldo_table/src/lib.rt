@@ -8,7 +8,7 @@
 //! A server's log is behind a lock, which each call holds only while it reads the log or adds one piece. Rows can be missing
 //! at a server for a while, since its pieces come in any order; its *prefix* is how many of the first places it has without
 //! a gap. A caller has a [`Pass`]: what it has seen of the order and of each server's journal, how many draws it may still
-//! make, and its *floor*, the greatest number of rows that it was told of. [`Table::agree`] fixes the rows that all three
+//! make, and its *floor*, the greatest number of rows that it learned of. [`Table::agree`] fixes the rows that all three
 //! servers have and never goes below the floor; where a server lacks one of those it says so (`Again`), and the caller tries
 //! again later.
 //!

@@ -2,6 +2,7 @@
 ghost use Rattle.std.specs.Prelude.{◌≡◌};
 ghost use Rattle.ticket_place.specs.Sights.{IsSound};
 ghost use Rattle.waldo_table.specs.Tables.{IsLegal as Legal};
+ghost use Rattle.wire_line.specs.Sights.{Sight};
 
 use crate::vault::Vault;
 use journal_lock::Seat;
@@ -9,7 +10,7 @@ use std::marker::Model;
 use ticket_place::Sight;
 
 /// What one caller has seen of a table: the order and the three journals; and its floor, the greatest number of rows that it
-/// was told of. The first pass comes with the table, each other one from [`Table::split_pass`](crate::Table::split_pass).
+/// learned of. The first pass comes with the table, each other one from [`Table::split_pass`](crate::Table::split_pass).
 ///
 /// Contracts see it as the order with its room and the places drawn through it, per server the journal and the number of
 /// looks, and the floor.
@@ -33,7 +34,7 @@ impl Model for Pass {
 }
 
 impl Pass {
-    /// The greatest number of rows that it was told of: by a look, by an agreement, or by the third placing of a row.
+    /// The greatest number of rows that it learned of: by a look, by an agreement, or by the third placing of a row.
     pub fn floor(&self) -> u64
         ensures floor { result ≡ self.now.floor }
         ensures legal { Legal self.now }

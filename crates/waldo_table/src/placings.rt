@@ -40,7 +40,14 @@ impl Table {
         ensures room { IfOk result (λ _. 0 < pass.old.sight.room) }
         ensures draws { IfOk result (λ d. Draws prepared.entry pass.old.sight d.place pass.new.sight) }
         ensures rest { IfOk result (λ _. pass.new ≡ record pass.old { sight = pass.new.sight }) }
-        ensures drawn { IfOk result (λ d. d ≡ record { table = self.now; entry = prepared.entry; place = d.place; zero = false; one = false; two = false }) }
+        ensures drawn { IfOk result (λ d. d ≡ record {
+          table = self.now;
+          entry = prepared.entry;
+          place = d.place;
+          zero = false;
+          one = false;
+          two = false;
+        }) }
         ensures there { IfOk result (λ d. slice_get pass.new.sight.order d.place ≡ Some prepared.entry) }
         ensures sound { IsSound pass.new.sight }
         ensures full { OnErr result (pass.old.sight.room ≡ 0) }

@@ -36,7 +36,8 @@ impl Model for Table {
 
     ghost view = { λ t. record { widths = t.widths; book = t.book; zero = t.zero.id; one = t.one.id; two = t.two.id } };
 
-    ghost invariant = { λ t. (t.book.capacity ≤ 65536) × IsLockOf 0 t.widths t.book t.zero × IsLockOf 1 t.widths t.book t.one × IsLockOf 2 t.widths t.book t.two };
+    ghost invariant = { λ t. (t.book.capacity ≤ 65536) × IsLockOf 0 t.widths t.book t.zero
+        × IsLockOf 1 t.widths t.book t.one × IsLockOf 2 t.widths t.book t.two };
 }
 
 // An empty server behind its lock.

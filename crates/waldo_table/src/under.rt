@@ -123,7 +123,7 @@ fn settle<R: Wait>(
     }
 }
 
-// The same of what a draw keeps for the server. A seat that has seen the place stays in the draw, so that a later placing
+// Places what a draw keeps for the server, in the draw itself. A seat that has seen the place stays in the draw, so that a later placing
 // through another pass can tell that pass so.
 pub(crate) fn put<R: Wait>(
     rt: &R,

@@ -98,7 +98,8 @@ impl Vault {
     pub(crate) fn fix(&mut self, alloc: Global, floor: u64) -> Result<Snapshot, FixFault>
         ensures stays { self.new ≡ self.old }
         ensures fixed { IfOk result (λ s. let h = ⟦<Snapshot as Shelf>⟧.held s in
-            (floor ≤ h.rows) × (h.rows ≡ prefix_in self.old.log.journal) × KeepsFirst self.old.log.widths self.old.log.server self.old.order h.rows h) }
+            (floor ≤ h.rows) × (h.rows ≡ prefix_in self.old.log.journal)
+            × KeepsFirst self.old.log.widths self.old.log.server self.old.order h.rows h) }
         ensures fault { IfErr result (IsFixFault floor self.old.log.journal) }
         ensures legal { IsJournal self.old.log.journal self.old.order }
     {

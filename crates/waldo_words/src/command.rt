@@ -27,14 +27,14 @@ pub enum Command {
         common: Common,
         schedule: Schedule,
     },
-    /// Let so many writers and askers (1 to 16 each) work side by side, each asker for so many rounds (1 to 16).
+    /// Let `writers` writers and `askers` askers (1 to 16 each) work side by side, each asker for `rounds` rounds (1 to 16).
     Race {
         common: Common,
         writers: u8,
         askers: u8,
         rounds: u8,
     },
-    /// Ask the queries over so many rows (1 to 65,536, just what the table has room for) generated from a number.
+    /// Ask the queries over `rows` rows (1 to 65,536, just what the table has room for) generated from a number.
     Make {
         common: Common,
         number: u32,

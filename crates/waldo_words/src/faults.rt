@@ -7,7 +7,7 @@ use report_lines::{Name, NameText};
 use std::alloc::{AllocError, AllocFailed};
 
 /// Why the words are refused: the first of them, from 0, that is bad; or the name of what is missing behind good ones; or
-/// want of memory.
+/// out of memory.
 #[derive(Drop)]
 pub enum WordFault {
     Word { index: u64 },

@@ -84,7 +84,7 @@ pub(crate) fn option_name(word: &str) -> Option<OptionName>
 }
 
 impl OptionName {
-    /// How often the option may stand in a command: not at all where the command hasn't got it.
+    /// How often the option may stand in a command: not at all where the command does not have it.
     pub fn most(self, command: CommandName) -> usize
         ensures { result ≡ most_times self command }
     {

@@ -45,7 +45,7 @@ pub(crate) fn start_number(text: &[u8]) -> Option<u32>
     }
 }
 
-/// The number of rows of a text, where a table of these columns may have room for so many.
+/// The number of rows of a text, where a table of these columns may have room for that number.
 #[tactic(auto, unfolding(crate::specs::Values::capacity_of))]
 pub(crate) fn capacity(schema: &Schema, text: &[u8]) -> Option<u32>
     ensures value { result ≡ capacity_of schema.now text.now }

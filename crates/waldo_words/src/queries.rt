@@ -44,7 +44,7 @@ impl Queries {
         self.queries
     }
 
-    /// Adds one at the end. After want of memory the list is as before.
+    /// Adds one at the end. Out of memory, the list is as before.
     pub(crate) fn push(&mut self, query: Query) -> Result<(), AllocError>
         ensures added { OnOk result (self.new ≡ self.old ++ query ∷ []) }
         ensures kept { OnErr result (self.new ≡ self.old) }

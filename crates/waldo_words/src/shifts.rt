@@ -58,7 +58,7 @@ impl ShiftWords {
         self.shifts
     }
 
-    /// Adds one at the end. After want of memory the list is as before.
+    /// Adds one at the end. Out of memory, the list is as before.
     pub(crate) fn push(&mut self, shift: ShiftWord) -> Result<(), AllocError>
         ensures added { OnOk result (self.new ≡ self.old ++ shift ∷ []) }
         ensures kept { OnErr result (self.new ≡ self.old) }

@@ -1,0 +1,2 @@
+mod Odd
+mod Passing

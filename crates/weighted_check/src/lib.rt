@@ -2,7 +2,9 @@
 //! predicate, so an unaltered pair is a total and the key times it, the key being the product of the weights; a total is
 //! accepted where that holds modulo 2^128 and it is below 2^64.
 //!
-//! It does not find who altered what, and an altered pair that keeps the relation passes.
+//! It does not find who altered what, and an altered pair that keeps the relation passes. Which ones do is said exactly in
+//! [`laws`]: where the total is off by d and the weighted total by e, just those with e the key times d, modulo 2^128, whose total
+//! stays below 2^64.
 //!
 //! ```text
 //! let pair = both_runs(rt, alloc, &mut shelves, &keys, &mut wire)?;
@@ -15,6 +17,8 @@
 
 ghost use Rattle.std.specs.Prelude.{◌≡◌, ◌↔◌, IsOk};
 ghost use Rattle.weighted_check.specs.Check.{Accepts, checked};
+
+pub mod laws;
 
 use ring128::mul;
 

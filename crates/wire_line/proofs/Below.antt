@@ -1,5 +1,5 @@
 -- What went through the wire below one that shifts.
-use Rattle.std.proofs.Common.{◌≡◌, ℕ, ◌+◌, List, [], ◌∷◌, length, Option, Result, Ok, Err, OnOk, ap, ◌∙◌, arith}
+use Rattle.std.proofs.Common.{◌≡◌, ℕ, ◌+◌, List, [], ◌∷◌, length, Result, Ok, Err, OnOk, ap, ◌∙◌, arith}
 use Rattle.ring128.specs.declared.memory.Memory.{Memory}
 use Rattle.wire_line.specs.declared.lent.LentWire.{LentWire}
 use Rattle.wire_line.specs.declared.message.Message.{Message}
@@ -7,9 +7,10 @@ use Rattle.wire_line.specs.declared.message.Peer.{Peer}
 use Rattle.wire_line.specs.declared.shift.ShiftWire.{ShiftWire}
 use Rattle.wire_line.specs.declared.shifts.Shift.{Shift}
 use Rattle.wire_line.specs.Messages.{message_of, message_at, Went}
-use Rattle.wire_line.specs.Shifts.{shifted, all_shifted, told_by, count_of, PassesShifted}
+use Rattle.wire_line.specs.Shifts.{shifted, all_shifted}
 use Rattle.wire_line.specs.ShiftLaws.{length-all_shifted}
-use Rattle.wire_line.specs.Shown.{shown}
+use Rattle.wire_line.specs.Shown.{sight_lent, sight_over}
+use Rattle.wire_line.specs.Sights.{Sight}
 
 -- where one message came out of the shifts, one went in
 one_below : (shifts : List Shift) (n : ℕ) (sender receiver : Peer) (sent got : List ℕ) (below : List Message)
@@ -24,16 +25,13 @@ one_below shifts n sender receiver sent got (k ∷ []) e =
 one_below shifts n sender receiver sent got (k ∷ l ∷ ks) e = absurd (omega (arith, ap length e, length-all_shifted shifts (n + 1) (l ∷ ks)))
 
 -- messages over a wire that shifts over one that is lent: others went over the lent one, and these are those after the shifts
-pub went_below : {S : Type 0} (told : S → Option (List Message)) (alterations : S → ℕ) (passes : S → List Message → S → Type 0)
+pub went_below : {S : Type 0} (sight : Sight S)
     (w v : ShiftWire (LentWire S)) (start last : S) (shifts : List Shift) (ms : List Message)
     → w.shifts ≡ shifts → w.messages.items ≡ [] → w.inner.inner.now ≡ start
     → (v.inner.inner.ghost_name ≡ w.inner.inner.ghost_name → last ≡ v.inner.inner.now)
-    → Went (λ (s : ShiftWire (LentWire S)). told_by (shown s)) (λ s. count_of (λ (l : LentWire S). alterations l.inner.now) (shown s))
-    (λ s ns t. PassesShifted (λ (l : LentWire S). told l.inner.now) (λ l. alterations l.inner.now)
-    (λ l ks k. (k.inner.ghost_name ≡ l.inner.ghost_name) × passes l.inner.now ks k.inner.now) (shown s) ns (shown t))
-    w ms v
-    → (below : List Message) × Went told alterations passes start below last × (ms ≡ all_shifted shifts 0 below)
-went_below told alterations passes w v start last shifts ms e f g h went =
+    → Went (sight_over (sight_lent sight)) w ms v
+    → (below : List Message) × Went sight start below last × (ms ≡ all_shifted shifts 0 below)
+went_below sight w v start last shifts ms e f g h went =
     let p = went.passed in
     let known : last ≡ v.inner.inner.now = h (p.went.passed.0) in (
       p.below,
@@ -42,17 +40,14 @@ went_below told alterations passes w v start last shifts ms e f g h went =
     )
 
 -- the same of one message, where it was carried
-pub one_went_below : {S : Type 0} (told : S → Option (List Message)) (alterations : S → ℕ) (passes : S → List Message → S → Type 0)
+pub one_went_below : {S : Type 0} (sight : Sight S)
     (r : Result (Unit {0}) Memory) (w v : ShiftWire (LentWire S)) (start last : S) (shifts : List Shift) (sender receiver : Peer) (sent got : List ℕ)
     → w.shifts ≡ shifts → w.messages.items ≡ [] → w.inner.inner.now ≡ start
     → (v.inner.inner.ghost_name ≡ w.inner.inner.ghost_name → last ≡ v.inner.inner.now)
-    → OnOk r (Went (λ (s : ShiftWire (LentWire S)). told_by (shown s)) (λ s. count_of (λ (l : LentWire S). alterations l.inner.now) (shown s))
-    (λ s ns t. PassesShifted (λ (l : LentWire S). told l.inner.now) (λ l. alterations l.inner.now)
-    (λ l ks k. (k.inner.ghost_name ≡ l.inner.ghost_name) × passes l.inner.now ks k.inner.now) (shown s) ns (shown t))
-    w (message_of sender receiver sent got ∷ []) v)
-    → OnOk r ((below : List ℕ) × Went told alterations passes start (message_of sender receiver sent below ∷ []) last × (got ≡ shifted shifts 0 below))
-one_went_below told alterations passes (Ok u) w v start last shifts sender receiver sent got e f g h went =
-    let p = went_below told alterations passes w v start last shifts (message_of sender receiver sent got ∷ []) e f g h went in
+    → OnOk r (Went (sight_over (sight_lent sight)) w (message_of sender receiver sent got ∷ []) v)
+    → OnOk r ((below : List ℕ) × Went sight start (message_of sender receiver sent below ∷ []) last × (got ≡ shifted shifts 0 below))
+one_went_below sight (Ok u) w v start last shifts sender receiver sent got e f g h went =
+    let p = went_below sight w v start last shifts (message_of sender receiver sent got ∷ []) e f g h went in
     let one = one_below shifts 0 sender receiver sent got p.0 p.2 in
     (one.0, rw (one.1) at p.1, one.2)
-one_went_below told alterations passes (Err x) w v start last shifts sender receiver sent got e f g h went = tt
+one_went_below sight (Err x) w v start last shifts sender receiver sent got e f g h went = tt

@@ -4,3 +4,4 @@ pub mod Messages
 pub mod ShiftLaws
 pub mod Shifts
 pub mod Shown
+pub mod Sights

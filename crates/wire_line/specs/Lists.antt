@@ -1,16 +1,16 @@
 -- Lists of wires, and whose count of alterations rose.
 use Rattle.std.specs.Prelude.{ℕ, zero, suc, ◌⊎◌, List, [], ◌∷◌}
-use Rattle.fault_count.specs.Causes.{Rose}
+use Rattle.wire_line.specs.Sights.{Sight, HasAltered}
 
 -- the count of alterations of one of the wires rose
-abbrev pub SomeRose : {W : Type 0} → (W → ℕ) → List W → List W → Type 0
-SomeRose alterations [] ws = ⊥
-SomeRose alterations (v ∷ vs) [] = ⊥
-SomeRose alterations (v ∷ vs) (w ∷ ws) = Rose (alterations v) (alterations w) ⊎ SomeRose alterations vs ws
+abbrev pub SomeRose : {W : Type 0} → Sight W → List W → List W → Type 0
+SomeRose sight [] ws = ⊥
+SomeRose sight (v ∷ vs) [] = ⊥
+SomeRose sight (v ∷ vs) (w ∷ ws) = HasAltered sight v w ⊎ SomeRose sight vs ws
 
 -- the count of the wire with this number rose
-abbrev pub RoseAt : {W : Type 0} → (W → ℕ) → ℕ → List W → List W → Type 0
-RoseAt alterations number [] ws = ⊥
-RoseAt alterations number (v ∷ vs) [] = ⊥
-RoseAt alterations zero (v ∷ vs) (w ∷ ws) = Rose (alterations v) (alterations w)
-RoseAt alterations (suc number) (v ∷ vs) (w ∷ ws) = RoseAt alterations number vs ws
+abbrev pub RoseAt : {W : Type 0} → Sight W → ℕ → List W → List W → Type 0
+RoseAt sight number [] ws = ⊥
+RoseAt sight number (v ∷ vs) [] = ⊥
+RoseAt sight zero (v ∷ vs) (w ∷ ws) = HasAltered sight v w
+RoseAt sight (suc number) (v ∷ vs) (w ∷ ws) = RoseAt sight number vs ws

@@ -1,9 +1,9 @@
 -- Messages, and what a wire did with them.
-use Rattle.std.specs.Prelude.{ℕ, ◌≡◌, ◌≤◌, List, [], ◌++◌, slice_index_or, All, Option, option_map}
-use Rattle.fault_count.specs.Causes.{Rose}
+use Rattle.std.specs.Prelude.{ℕ, ◌≡◌, ◌≤◌, List, [], ◌++◌, slice_index_or, All, option_map}
 use Rattle.wire_line.specs.declared.message.Message.{Message}
 use Rattle.wire_line.specs.declared.message.Peer.{Peer}
 use Rattle.wire_line.specs.declared.message.Peer.TheVariants.{Client}
+use Rattle.wire_line.specs.Sights.{Sight, HasAltered}
 
 -- a message of two lists of words
 abbrev pub message_of : Peer → Peer → List ℕ → List ℕ → Message
@@ -17,11 +17,10 @@ message_at ms i = slice_index_or ms i (message_of Client Client [] [])
 abbrev pub IsHonest : List Message → Type 0
 IsHonest ms = All (λ (m : Message). m.received ≡ m.sent) ms
 
--- a wire carried these messages: they stand at the end of its list, where it tells one; its count didn't fall; unless it rose,
+-- a wire carried these messages: they stand at the end of its list, where it reports one; its count didn't fall; unless it rose,
 -- each message was received as it was sent; and what its kind says besides holds of them
-pub record Went {S : Type 0} (told : S → Option (List Message)) (alterations : S → ℕ) (passes : S → List Message → S → Type 0)
-    (before : S) (ms : List Message) (after : S) : Type 0 where
-  pub listed : told after ≡ option_map (λ (old : List Message). old ++ ms) (told before)
-  pub grows : alterations before ≤ alterations after
-  pub honest : ¬ Rose (alterations before) (alterations after) → IsHonest ms
-  pub passed : passes before ms after
+pub record Went {S : Type 0} (sight : Sight S) (before : S) (ms : List Message) (after : S) : Type 0 where
+  pub listed : sight.reported after ≡ option_map (λ (old : List Message). old ++ ms) (sight.reported before)
+  pub grows : sight.alterations before ≤ sight.alterations after
+  pub honest : ¬ HasAltered sight before after → IsHonest ms
+  pub passed : sight.passes before ms after

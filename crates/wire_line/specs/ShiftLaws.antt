@@ -1,10 +1,11 @@
 -- Messages through a wire that shifts.
-use Rattle.std.proofs.Common.{◌≡◌, ℕ, zero, suc, ◌+◌, ◌<◌, List, [], ◌∷◌, ◌++◌, length, Option, refl, sym, ap, ◌∙◌, arith, append_assoc, append-nil, length-append}
+use Rattle.std.proofs.Common.{◌≡◌, ℕ, zero, suc, ◌+◌, ◌<◌, List, [], ◌∷◌, ◌++◌, length, refl, sym, ap, ◌∙◌, arith, append_assoc, append-nil, length-append}
 use Rattle.wire_line.specs.declared.message.Message.{Message}
 use Rattle.wire_line.specs.declared.shifts.Shift.{Shift}
 use Rattle.wire_line.specs.Messages.{message_at}
 use Rattle.wire_line.specs.Shifts.{shifted, all_shifted, changes, Shifting, PassesShifted}
-use Rattle.wire_line.specs.Carried.{NonePasses, BothPass, went_none, went_both}
+use Rattle.wire_line.specs.Carried.{went_none, went_both}
+use Rattle.wire_line.specs.Sights.{Sight, NonePasses, BothPass}
 
 pub length-all_shifted : (shifts : List Shift) (n : ℕ) (ms : List Message) → length (all_shifted shifts n ms) ≡ length ms
 length-all_shifted shifts n [] = refl
@@ -33,35 +34,34 @@ changes-append (k ∷ ks) ls [] ns e = absurd (omega arith)
 changes-append (k ∷ ks) ls (m ∷ ms) ns e = rw (changes-append ks ls ms ns (omega arith)) (omega arith)
 
 -- nothing was carried
-pub still_shifted : {S : Type 0} (told : S → Option (List Message)) (alterations : S → ℕ) (passes : S → List Message → S → Type 0)
-    (inner now : S) (shifts : List Shift) (messages messages_now : List Message) (changed : ℕ)
-    → told now ≡ told inner → alterations now ≡ alterations inner → passes inner [] now → messages_now ≡ messages
-    → PassesShifted told alterations passes (record { inner = inner; shifts = shifts; messages = messages; changed = changed }) []
+pub still_shifted : {S : Type 0} (sight : Sight S) (inner now : S) (shifts : List Shift) (messages messages_now : List Message) (changed : ℕ)
+    → sight.reported now ≡ sight.reported inner → sight.alterations now ≡ sight.alterations inner → sight.passes inner [] now → messages_now ≡ messages
+    → PassesShifted sight (record { inner = inner; shifts = shifts; messages = messages; changed = changed }) []
     (record { inner = now; shifts = shifts; messages = messages_now; changed = changed })
-still_shifted told alterations passes inner now shifts messages messages_now changed list count p e = record {
+still_shifted sight inner now shifts messages messages_now changed list count p e = record {
   below = [];
-  went = went_none told alterations passes inner now list count p;
+  went = went_none sight inner now list count p;
   these = refl;
   kept = refl;
   list = e ∙ sym (append-nil messages);
   count = omega arith;
 }
 
-pub none_shifted : {S : Type 0} (told : S → Option (List Message)) (alterations : S → ℕ) (passes : S → List Message → S → Type 0) → NonePasses passes
-    → (w : Shifting S) → PassesShifted told alterations passes w [] w
-none_shifted told alterations passes none w = still_shifted told alterations passes w.inner w.inner w.shifts w.messages w.messages w.changed refl refl (none w.inner) refl
+pub none_shifted : {S : Type 0} (sight : Sight S) → NonePasses sight
+    → (w : Shifting S) → PassesShifted sight w [] w
+none_shifted sight none w = still_shifted sight w.inner w.inner w.shifts w.messages w.messages w.changed refl refl (none w.inner) refl
 
 -- messages were carried in two calls
-pub both_shifted : {S : Type 0} (told : S → Option (List Message)) (alterations : S → ℕ) (passes : S → List Message → S → Type 0) → BothPass passes
-    → (w v u : Shifting S) (ms ns : List Message) → PassesShifted told alterations passes w ms v → PassesShifted told alterations passes v ns u
-    → PassesShifted told alterations passes w (ms ++ ns) u
-both_shifted told alterations passes both w v u ms ns p q =
+pub both_shifted : {S : Type 0} (sight : Sight S) → BothPass sight
+    → (w v u : Shifting S) (ms ns : List Message) → PassesShifted sight w ms v → PassesShifted sight v ns u
+    → PassesShifted sight w (ms ++ ns) u
+both_shifted sight both w v u ms ns p q =
     let long : length ms ≡ length p.below = ap length p.these ∙ length-all_shifted w.shifts (length w.messages) p.below in
     let place : length v.messages ≡ length w.messages + length p.below = omega (arith, ap length p.list, length-append w.messages ms) in
     let counted = changes-append p.below q.below ms ns (sym long) in
     record {
       below = p.below ++ q.below;
-      went = went_both told alterations passes both w.inner v.inner u.inner p.below q.below p.went q.went;
+      went = went_both sight both w.inner v.inner u.inner p.below q.below p.went q.went;
       these = rw (p.these, q.these, p.kept, place) (sym (all_shifted-append w.shifts (length w.messages) p.below q.below));
       kept = q.kept ∙ p.kept;
       list = q.list ∙ (ap (λ (l : List Message). l ++ ns) p.list ∙ append_assoc w.messages ms ns);

@@ -1,11 +1,12 @@
 -- What a wire does that shifts words.
-use Rattle.std.specs.Prelude.{ℕ, ◌≡◌, ◌+◌, ◌-◌, ◌^◌, ◌==◌, ◌&&◌, min, if◌then◌else◌, Bool, List, [], ◌∷◌, ◌++◌, length, map, filter, nat_eq, Option, Some}
+use Rattle.std.specs.Prelude.{ℕ, ◌≡◌, ◌+◌, ◌-◌, ◌^◌, ◌==◌, ◌&&◌, min, if◌then◌else◌, Bool, List, [], ◌∷◌, ◌++◌, length, map, filter, nat_eq, Some}
 use Rattle.std.specs.Cmp.Lexicographic.{pointwise}
 use Rattle.list_facts.specs.Listed.{listed}
 use Rattle.ring128.specs.Ring.{sums, total_of}
 use Rattle.wire_line.specs.declared.message.Message.{Message}
 use Rattle.wire_line.specs.declared.shifts.Shift.{Shift}
 use Rattle.wire_line.specs.Messages.{Went}
+use Rattle.wire_line.specs.Sights.{Sight}
 
 -- this shift names this word of this message
 abbrev pub names : ℕ → ℕ → Shift → Bool
@@ -37,20 +38,20 @@ pub record Shifting (S : Type 0) : Type 0 where
   pub messages : List Message
   pub changed : ℕ
 
--- what such a wire tells: its own list
-abbrev pub told_by : {S : Type 0} → Shifting S → Option (List Message)
-told_by w = Some w.messages
-
--- its count: that of the wire below, and the messages that it changed; it stops at the end of its type
-abbrev pub count_of : {S : Type 0} → (S → ℕ) → Shifting S → ℕ
-count_of alterations w = min (alterations w.inner + w.changed) (2 ^ 64 - 1)
-
 -- messages went through a wire that shifts: others went through the wire below it, and these are those after the shifts
-pub record PassesShifted {S : Type 0} (told : S → Option (List Message)) (alterations : S → ℕ) (passes : S → List Message → S → Type 0)
-    (before : Shifting S) (ms : List Message) (after : Shifting S) : Type 0 where
+pub record PassesShifted {S : Type 0} (sight : Sight S) (before : Shifting S) (ms : List Message) (after : Shifting S) : Type 0 where
   pub below : List Message
-  pub went : Went told alterations passes before.inner below after.inner
+  pub went : Went sight before.inner below after.inner
   pub these : ms ≡ all_shifted before.shifts (length before.messages) below
   pub kept : after.shifts ≡ before.shifts
   pub list : after.messages ≡ before.messages ++ ms
   pub count : min after.changed (2 ^ 64 - 1) ≡ min (before.changed + changes below ms) (2 ^ 64 - 1)
+
+-- what is seen of such a wire: its own list; the count of the wire below and the messages that it changed, which stops at the end of its
+-- type; and that its messages are those of the wire below after the shifts
+abbrev pub sight_shifted : {S : Type 0} → Sight S → Sight (Shifting S)
+sight_shifted sight = record {
+  reported = λ w. Some w.messages;
+  alterations = λ w. min (sight.alterations w.inner + w.changed) (2 ^ 64 - 1);
+  passes = PassesShifted sight;
+}

@@ -22,12 +22,9 @@ impl<'a, W: Wire> LentWire<'a, W> {
 }
 
 impl<'a, W: Wire> Wire for LentWire<'a, W> {
-    ghost told = { λ w. W.told w.inner.now };
+    ghost use Rattle.wire_line.specs.Shown.{sight_lent};
 
-    ghost alterations = { λ w. W.alterations w.inner.now };
-
-    // It lends the same wire, and says of it what that wire says.
-    ghost passes = { λ w ms v. (v.inner.ghost_name ≡ w.inner.ghost_name) × W.passes w.inner.now ms v.inner.now };
+    ghost sight = { sight_lent W.sight };
 
     fn altered(&self) -> u64 {
         self.inner.altered()

@@ -3,12 +3,12 @@
 //! never alters without counting.
 //!
 //! What a wire did over a call is one fact, `Went`: the messages that it carried stand at the end of its list, where it
-//! tells one, and each was received as it was sent unless its count rose.
+//! reports one, and each was received as it was sent unless its count rose.
 //!
 //! ```text
 //! fn ask_twice<W: Wire>(wire: &mut W, words: &mut [u128]) -> Result<(), Memory>
 //!     ensures {
-//!         (ms : List Message) × Went W.told W.alterations W.passes wire.old ms wire.new
+//!         (ms : List Message) × Went W.sight wire.old ms wire.new
 //!         × OnOk result (length ms ≡ 2)
 //!     }
 //! {

@@ -40,11 +40,7 @@ impl RecordWire {
 }
 
 impl Wire for RecordWire {
-    ghost told = { λ w. Some w };
-
-    ghost alterations = { λ _. 0 };
-
-    ghost passes = { λ _ _ _. ⊤ };
+    ghost sight = { record { reported = λ w. Some w; alterations = λ _. 0; passes = λ _ _ _. ⊤ } };
 
     fn altered(&self) -> u64 {
         0

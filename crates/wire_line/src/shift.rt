@@ -10,7 +10,7 @@ use ring128::{Memory, Words};
 use std::alloc::Global;
 
 /// A wire that shifts words of the messages which the wire below it carries. It counts its messages from 0 and keeps
-/// them, also where the wire below tells nothing. Its count is that of the wire below plus the number of messages that
+/// them, also where the wire below reports nothing. Its count is that of the wire below plus the number of messages that
 /// it changed.
 #[derive(Drop)]
 pub struct ShiftWire<W> {
@@ -69,15 +69,10 @@ impl<'a, W: Wire> ShiftWire<LentWire<'a, W>> {
 }
 
 impl<W: Wire> Wire for ShiftWire<W> {
-    ghost use Rattle.wire_line.specs.Shifts.{told_by, count_of, PassesShifted};
-    ghost use Rattle.wire_line.specs.Shown.{shown};
+    ghost use Rattle.wire_line.specs.Shown.{shown, sight_over};
     ghost use Rattle.wire_line.specs.ShiftLaws.{none_shifted, both_shifted};
 
-    ghost told = { λ w. told_by (shown w) };
-
-    ghost alterations = { λ w. count_of W.alterations (shown w) };
-
-    ghost passes = { λ w ms v. PassesShifted W.told W.alterations W.passes (shown w) ms (shown v) };
+    ghost sight = { sight_over W.sight };
 
     fn altered(&self) -> u64 {
         self.inner.altered().saturating_add(self.changed)
@@ -103,9 +98,9 @@ impl<W: Wire> Wire for ShiftWire<W> {
         Ok(())
     }
 
-    ghost none_passes = { λ w. none_shifted W.told W.alterations W.passes W.none_passes (shown w) };
+    ghost none_passes = { λ w. none_shifted W.sight W.none_passes (shown w) };
 
-    ghost both_pass = { λ w v u. both_shifted W.told W.alterations W.passes W.both_pass (shown w) (shown v) (shown u) };
+    ghost both_pass = { λ w v u. both_shifted W.sight W.both_pass (shown w) (shown v) (shown u) };
 }
 
 // One more where the words that were received below are not those after the shifts.

@@ -4,7 +4,7 @@ use crate::message::Peer;
 use crate::wire::Wire;
 use ring128::Memory;
 
-/// A wire that alters nothing and tells nothing. Its count is always 0, and it takes no memory.
+/// A wire that alters nothing and reports nothing. Its count is always 0, and it takes no memory.
 #[derive(Drop)]
 pub struct StraightWire;
 
@@ -16,11 +16,7 @@ impl StraightWire {
 }
 
 impl Wire for StraightWire {
-    ghost told = { λ _. None };
-
-    ghost alterations = { λ _. 0 };
-
-    ghost passes = { λ _ _ _. ⊤ };
+    ghost sight = { record { reported = λ _. None; alterations = λ _. 0; passes = λ _ _ _. ⊤ } };
 
     fn altered(&self) -> u64 {
         0

@@ -8,7 +8,7 @@ use std::alloc::Global;
 
 // Sends words to server 0.
 fn send<W: Wire>(wire: &mut W, words: &mut [u128]) -> Result<(), Memory>
-    ensures { OnOk result (Went W.told W.alterations W.passes wire.old (message_of Peer.Client Peer.Server0 words.old words.new ∷ []) wire.new) }
+    ensures { OnOk result (Went W.sight wire.old (message_of Peer.Client Peer.Server0 words.old words.new ∷ []) wire.new) }
 {
     wire.carry(Peer::Client, Peer::Server0, words)
 }
@@ -20,7 +20,7 @@ fn send_shifted<W: Wire>(
     shifts: Shifts,
     words: &mut [u128],
 ) -> Result<(), Memory>
-    ensures { OnOk result ((below : List ℕ) × Went W.told W.alterations W.passes wire.old (message_of Peer.Client Peer.Server0 words.old below ∷ []) wire.new
+    ensures { OnOk result ((below : List ℕ) × Went W.sight wire.old (message_of Peer.Client Peer.Server0 words.old below ∷ []) wire.new
         × (words.new ≡ shifted shifts 0 below)) }
 {
     let mut over = ShiftWire::over(alloc, LentWire::over(wire), shifts);

@@ -13,7 +13,7 @@ nothing : OpenedPair
 nothing = record { total = 0; weighted = 0 }
 
 pub returns-in_default-clause-answers : goal.returns-in_default-clause-answers
-returns-in_default-clause-answers g c = ([], nothing, went_none g.W.Wire.told g.W.Wire.alterations g.W.Wire.passes _ _ refl refl (g.met.W.Wire.none_passes _), no_part _, λ honest. tt)
+returns-in_default-clause-answers g c = ([], nothing, went_none g.W.Wire.sight _ _ refl refl (g.met.W.Wire.none_passes _), no_part _, λ honest. tt)
 
 pub returns-in-Err-clause-answers : goal.returns-in-Err-clause-answers
 returns-in-Err-clause-answers g c =

@@ -66,7 +66,7 @@ pub returns-in_err-held-clause-messages : goal.returns-in_err-held-clause-messag
 returns-in_err-held-clause-messages g c =
     let p = c.in_ok-product.ensures in
     let v = rw (p.zero, p.one, p.two, c.into_chain-chain.ensures.chain) at c.in_err-held.ensures.messages in
-    let went = went_both g.W.Wire.told g.W.Wire.alterations g.W.Wire.passes g.met.W.Wire.both_pass _ _ _ p.messages.0 v.0 p.messages.1 v.1 in
+    let went = went_both g.W.Wire.sight g.met.W.Wire.both_pass _ _ _ p.messages.0 v.0 p.messages.1 v.1 in
     (p.messages.0 ++ v.0, went, before_part _ c.args.column _ _ _ _ p.messages.0 v.0 c.requires.run p.messages.3 v.2, search rules)
 
 pub returns-in_err-totals-clause-messages : goal.returns-in_err-totals-clause-messages
@@ -75,8 +75,8 @@ returns-in_err-totals-clause-messages g c =
     let h = c.in_ok-held.ensures in
     let v = rw (p.zero, p.one, p.two, c.into_chain-chain.ensures.chain) at h.messages in
     let o = rw (h.zero, h.one, h.two, p.zero, p.one, p.two) at c.in_err-totals.ensures.messages in
-    let first = went_both g.W.Wire.told g.W.Wire.alterations g.W.Wire.passes g.met.W.Wire.both_pass _ _ _ p.messages.0 v.0 p.messages.1 v.1 in
-    let went = went_both g.W.Wire.told g.W.Wire.alterations g.W.Wire.passes g.met.W.Wire.both_pass _ _ _ (p.messages.0 ++ v.0) o.0 first o.1 in
+    let first = went_both g.W.Wire.sight g.met.W.Wire.both_pass _ _ _ p.messages.0 v.0 p.messages.1 v.1 in
+    let went = went_both g.W.Wire.sight g.met.W.Wire.both_pass _ _ _ (p.messages.0 ++ v.0) o.0 first o.1 in
     ((p.messages.0 ++ v.0) ++ o.0, went, buckets_part _ c.args.column _ _ _ _ _ p.messages.0 v.0 o.0 c.requires.run p.messages.3 v.2 v.3 o.2, search rules)
 
 pub returns-clause-messages : goal.returns-clause-messages
@@ -85,8 +85,8 @@ returns-clause-messages g c =
     let h = c.in_ok-held.ensures in
     let v = rw (p.zero, p.one, p.two, c.into_chain-chain.ensures.chain) at h.messages in
     let o = rw (h.zero, h.one, h.two, p.zero, p.one, p.two) at c.in_ok-totals.ensures.messages in
-    let first = went_both g.W.Wire.told g.W.Wire.alterations g.W.Wire.passes g.met.W.Wire.both_pass _ _ _ p.messages.0 v.0 p.messages.1 v.1 in
-    let went = went_both g.W.Wire.told g.W.Wire.alterations g.W.Wire.passes g.met.W.Wire.both_pass _ _ _ (p.messages.0 ++ v.0) o.0 first o.1 in (
+    let first = went_both g.W.Wire.sight g.met.W.Wire.both_pass _ _ _ p.messages.0 v.0 p.messages.1 v.1 in
+    let went = went_both g.W.Wire.sight g.met.W.Wire.both_pass _ _ _ (p.messages.0 ++ v.0) o.0 first o.1 in (
       (p.messages.0 ++ v.0) ++ o.0,
       went,
       buckets_part _ c.args.column _ _ _ _ _ p.messages.0 v.0 o.0 c.requires.run p.messages.3 v.2 v.3 o.2,

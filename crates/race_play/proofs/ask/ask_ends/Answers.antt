@@ -14,7 +14,7 @@ loop-q-init g c = record {
   grows = record { order = prefix_self _; zero = prefix_self _; one = prefix_self _; two = prefix_self _ };
   own = refl;
   covered = covered_first c.args.rows c.args.pass.now c.requires.all c.requires.floor;
-  asked = rw c.new-said.ensures (so_far_none g.W.Wire.told g.W.Wire.alterations g.W.Wire.passes (g.met.W.Wire.none_passes) (g.met.W.Wire.both_pass) c.args.table.now.widths c.args.rows c.args.pass.now c.args.wire.now (λ q grows agrees. at_least c.args.table.now.widths c.args.rows c.args.pass.now q c.requires.all grows agrees));
+  asked = rw c.new-said.ensures (so_far_none g.W.Wire.sight (g.met.W.Wire.none_passes) (g.met.W.Wire.both_pass) c.args.table.now.widths c.args.rows c.args.pass.now c.args.wire.now (λ q grows agrees. at_least c.args.table.now.widths c.args.rows c.args.pass.now q c.requires.all grows agrees));
 }
 
 pub returns-in_err-line : goal.returns-in_err-line
@@ -28,7 +28,7 @@ returns-in_err-line g c =
       own = e.own ∙ ap (λ (s : Seen). record s { order = c.ask_line.new.pass.sight.order }) i.own;
       asked = (
         _,
-        went_both g.W.Wire.told g.W.Wire.alterations g.W.Wire.passes (g.met.W.Wire.both_pass) _ _ _ _ h.0 i.asked.went h.2,
+        went_both g.W.Wire.sight (g.met.W.Wire.both_pass) _ _ _ _ h.0 i.asked.went h.2,
         IfOk-from_err c.from_residual.result _ c.from_residual.ensures.0,
       );
     }
@@ -44,7 +44,7 @@ returns-in_err-push g c =
       own = e.own ∙ ap (λ (s : Seen). record s { order = c.ask_line.new.pass.sight.order }) i.own;
       asked = (
         _,
-        went_both g.W.Wire.told g.W.Wire.alterations g.W.Wire.passes (g.met.W.Wire.both_pass) _ _ _ _ h.0 i.asked.went h.2,
+        went_both g.W.Wire.sight (g.met.W.Wire.both_pass) _ _ _ _ h.0 i.asked.went h.2,
         IfOk-from_err c.from_residual-in_err-push.result _ c.from_residual-in_err-push.ensures.0,
       );
     }
@@ -60,8 +60,8 @@ loop-q-preserved g c =
       grows = grows_trans _ _ _ i.grows e.grows;
       own = e.own ∙ ap (λ (s : Seen). record s { order = c.ask_line.new.pass.sight.order }) i.own;
       covered = e.covered;
-      asked = subst (λ (xs : List Question). SoFar g.W.Wire.told g.W.Wire.alterations g.W.Wire.passes c.args.table.now.widths c.args.rows c.ask_line.new.pass xs c.push.new.self c.args.wire.now c.ask_line.new.wire)
+      asked = subst (λ (xs : List Question). SoFar g.W.Wire.sight c.args.table.now.widths c.args.rows c.ask_line.new.pass xs c.push.new.self c.args.wire.now c.ask_line.new.wire)
           (ends_next c.args.queries.now c.args.master.now c.loop-q.q (c.loop-q.q + 1) _ c.derive-seed.result c.loop-q-test.true next c.derive-seed.ensures)
-          (so_far_more g.W.Wire.told g.W.Wire.alterations g.W.Wire.passes (g.met.W.Wire.none_passes) (g.met.W.Wire.both_pass) c.args.table.now.widths c.args.rows c.loop-q.pass c.ask_line.new.pass _ c.loop-q.said c.push.new.self
+          (so_far_more g.W.Wire.sight (g.met.W.Wire.none_passes) (g.met.W.Wire.both_pass) c.args.table.now.widths c.args.rows c.loop-q.pass c.ask_line.new.pass _ c.loop-q.said c.push.new.self
           c.args.wire.now c.loop-q.wire c.ask_line.new.wire _ _ _ h.0 h.1 c.in_ok-line.line i.asked e.grows h.3 h.2 c.in_ok-push.ensures);
     }

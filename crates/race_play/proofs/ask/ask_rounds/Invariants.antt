@@ -10,5 +10,5 @@ invariant-loop-round g l = record {
   grows : Grows l.fn.pass l.pass;
   own : l.pass.sight ≡ record l.fn.pass.sight { order = l.pass.sight.order };
   covered : IsCovered l.pass;
-  asked : SoFar g.W.Wire.told g.W.Wire.alterations g.W.Wire.passes l.table.widths 0 l.pass (rounds_of l.queries l.master l.asker l.round) l.said l.fn.wire l.wire;
+  asked : SoFar g.W.Wire.sight l.table.widths 0 l.pass (rounds_of l.queries l.master l.asker l.round) l.said l.fn.wire l.wire;
 }

@@ -9,7 +9,7 @@ race_askers-returns g t c =
     let met = c.gather.ensures in
     let next : c.args.asker + 1 ≡ suc c.args.asker = omega arith in
     let is : c.args.wires.now ≡ c.in-Some.wire.now ∷ c.in-Some.rest.now = c.in-Some.ensures.cases.0 in
-    rw is (asks_both g.W.Wire.told g.W.Wire.alterations g.W.Wire.passes c.args.table.now c.args.queries.now c.args.master.now c.args.crew.now c.args.asker
+    rw is (asks_both g.W.Wire.sight c.args.table.now c.args.queries.now c.args.master.now c.args.crew.now c.args.asker
     c.args.pass.now c.split_pass-mine.result c.split_pass-mine.new.pass c.ask_beside-first.new.mine c.ask_beside-first.new.pass c.gather.new.pass
     c.in-Some.wire.now c.ask_beside-first.new.wire c.in-Some.rest.now c.ask_beside-first.new.rest (c.args.asker + 1) c.ask_beside-first.result.0 c.ask_beside-first.result.1 c.joined.result
     e.one e.others next split.given split.kept met.pass met.grows.0 met.grows.1 met.gathered c.joined.ensures)

@@ -15,9 +15,9 @@ returns-clause-reports g c =
     let e = c.in_ok-ends.ensures in
     IfOk-weaker c.report_of.result _ _ (λ r text. (
       more_over_first e.asked.0 raced.0,
-      went_lent g.W.Wire.told g.W.Wire.alterations g.W.Wire.passes (g.met.W.Wire g.world.𝓛 g.world.𝓜 g.world.𝓡 ((λ s x. x), (λ x. x), (λ x. x), λ x. x)).both_pass raced.0 c.args.wires.now.len c.args.wires.now.items c.as_mut_slice.result.now c.race_all.new.wires e.asked.0 c.ask_ends.new.wire _
+      went_lent g.W.Wire.sight (g.met.W.Wire g.world.𝓛 g.world.𝓜 g.world.𝓡 ((λ s x. x), (λ x. x), (λ x. x), λ x. x)).both_pass raced.0 c.args.wires.now.len c.args.wires.now.items c.as_mut_slice.result.now c.race_all.new.wires e.asked.0 c.ask_ends.new.wire _
           (let n = raced.2.askers in let some = c.requires.legal.askers.0 in omega arith) c.args.wires.now.ok.0 c.as_mut_slice.ensures.value raced.1
-          (subst (λ (v : g.row.W.Denot). Went g.W.Wire.told g.W.Wire.alterations g.W.Wire.passes v e.asked.0 c.ask_ends.new.wire) c.index_mut.ensures.value e.asked.1),
+          (subst (λ (v : g.row.W.Denot). Went g.W.Wire.sight v e.asked.0 c.ask_ends.new.wire) c.index_mut.ensures.value e.asked.1),
       reports_of (setting_of race) c.in_ok-raced.raced c.race_all.new.pass c.ask_ends.new.pass raced.0 e.asked.0 c.in_ok-ends.ends r.report raced.2 e.grows e.own c.room.ensures.sound
           (subst (λ (w : Widths). Gave w c.ask_ends.new.pass.sight.order (length race.rows.now) (ends_of race.queries.now race.master (length race.queries.now)) e.asked.0 c.in_ok-ends.ends) c.in-Ok.ensures.table.0 e.asked.2)
           text,
@@ -26,5 +26,5 @@ returns-clause-reports g c =
 pub returns-clause-accepted : goal.returns-clause-accepted
 returns-clause-accepted g c still =
     IfOk-weaker c.report_of.result _ _
-    (λ r h. h.1 ∙ reports_quiet (setting_of c.args.race.now) h.0.0 r.report c.requires.legal.askers.0 h.0.2 (all_honest g.W.Wire.told g.W.Wire.alterations g.W.Wire.passes h.0.0 _ _ h.0.1 still))
+    (λ r h. h.1 ∙ reports_quiet (setting_of c.args.race.now) h.0.0 r.report c.requires.legal.askers.0 h.0.2 (all_honest g.W.Wire.sight h.0.0 _ _ h.0.1 still))
     (if_both c.report_of.result _ _ (returns-clause-reports g c) c.report_of.ensures.altered)

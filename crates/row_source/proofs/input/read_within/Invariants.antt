@@ -6,8 +6,8 @@ use Rattle.row_source.proofs.input.read_within.Given as goal
 abbrev pub invariant-loop-buffer : goal.invariant-loop-buffer
 invariant-loop-buffer g l = record {
   bound : vec_len l.bytes ≤ l.limit + 1;
-  taken : Consumes (g.S.Source.left l.fn.source) (g.S.Source.left l.source) l.bytes.items;
-  kept : g.S.Source.fault_count l.source ≡ g.S.Source.fault_count l.fn.source;
+  taken : Consumes (g.S.Source.sight.bytes l.fn.source) (g.S.Source.sight.bytes l.source) l.bytes.items;
+  kept : g.S.Source.sight.faults l.source ≡ g.S.Source.sight.faults l.fn.source;
 }
 
 abbrev pub decreases-loop-buffer : goal.decreases-loop-buffer

@@ -23,13 +23,13 @@ pub returns-in_err-progress-clause-plays : goal.returns-in_err-progress-clause-p
 returns-in_err-progress-clause-plays g c =
     let p = err_from_is_err_and c.from_residual.result c.from_residual.ensures.1 in
     rw (p.1, p.2)
-    (nothing_plays g.W.Wire.told g.W.Wire.alterations g.W.Wire.passes c.args.setting.now.widths (asking (seen c.args.setting.now)) _ _ g.met.W.Wire.none_passes refl)
+    (nothing_plays g.W.Wire.sight c.args.setting.now.widths (asking (seen c.args.setting.now)) _ _ g.met.W.Wire.none_passes refl)
 
 pub returns-in_err-append_rows-clause-plays : goal.returns-in_err-append_rows-clause-plays
 returns-in_err-append_rows-clause-plays g c =
     let p = err_from_is_err_and c.from_residual-in_err-append_rows.result c.from_residual-in_err-append_rows.ensures.1 in
     rw (p.1, p.2)
-    (nothing_plays g.W.Wire.told g.W.Wire.alterations g.W.Wire.passes c.args.setting.now.widths (asking (seen c.args.setting.now)) _ _ g.met.W.Wire.none_passes refl)
+    (nothing_plays g.W.Wire.sight c.args.setting.now.widths (asking (seen c.args.setting.now)) _ _ g.met.W.Wire.none_passes refl)
 
 pub returns-in_err-ask_queries-clause-plays : goal.returns-in_err-ask_queries-clause-plays
 returns-in_err-ask_queries-clause-plays g c =
@@ -42,12 +42,12 @@ returns-in_err-ask_queries-clause-plays g c =
     let count : c.append_rows.new.self.done ≡ c.in_ok-progress.progress.done + length (appended (length s.rows)) =
     omega (arith, c.in_ok-append_rows.ensures.done, c.in_ok-progress.ensures.done, length-parts (λ (row : ℕ). append_steps) 4 0 (length s.rows) (λ i. refl)) in
     rw (p.1, p.2)
-    (stops_plays g.W.Wire.told g.W.Wire.alterations g.W.Wire.passes w (asking s) vs
+    (stops_plays g.W.Wire.sight w (asking s) vs
     c.ask_queries.new.wires.items c.in_ok-progress.progress.done first _ c.in_ok-progress.ensures.done c.in_ok-progress.ensures.stage
-    (leads_stops g.W.Wire.told g.W.Wire.alterations g.W.Wire.passes w s Queries g.met.W.Wire.both_pass c.in_ok-progress.progress.done first
+    (leads_stops g.W.Wire.sight w s Queries g.met.W.Wire.both_pass c.in_ok-progress.progress.done first
     mid vs vs c.ask_queries.new.wires.items (appended (length s.rows)) (asked (length s.queries)) _
-    (rows_lead g.W.Wire.told g.W.Wire.alterations g.W.Wire.passes g.met.W.Wire.none_passes w s first mid vs c.in_ok-progress.ensures.stage c.in_ok-append_rows.ensures.stage)
-    (subst (λ (t : ℕ). Stops g.W.Wire.told g.W.Wire.alterations g.W.Wire.passes w s Queries t mid vs
+    (rows_lead g.W.Wire.sight g.met.W.Wire.none_passes w s first mid vs c.in_ok-progress.ensures.stage c.in_ok-append_rows.ensures.stage)
+    (subst (λ (t : ℕ). Stops g.W.Wire.sight w s Queries t mid vs
     (asked (length s.queries)) c.ask_queries.new.wires.items c.in_err-ask_queries.field-0.0) count c.in_err-ask_queries.ensures.stops)))
 
 pub returns-clause-plays : goal.returns-clause-plays
@@ -57,10 +57,10 @@ returns-clause-plays g c =
     let vs = c.args.wires.now.items in
     let first = stage_of c.in_ok-progress.progress in
     let mid = stage_of c.append_rows.new.self in
-    leads_plays g.W.Wire.told g.W.Wire.alterations g.W.Wire.passes w (asking s) vs
+    leads_plays g.W.Wire.sight w (asking s) vs
     c.ask_queries.new.wires.items first (stage_of c.ask_queries.new.progress) c.into_played.result c.in_ok-progress.ensures.stage
-    (leads_both g.W.Wire.told g.W.Wire.alterations g.W.Wire.passes w s Queries g.met.W.Wire.both_pass first mid
+    (leads_both g.W.Wire.sight w s Queries g.met.W.Wire.both_pass first mid
     (stage_of c.ask_queries.new.progress) vs vs c.ask_queries.new.wires.items (appended (length s.rows)) (asked (length s.queries))
-    (rows_lead g.W.Wire.told g.W.Wire.alterations g.W.Wire.passes g.met.W.Wire.none_passes w s first mid vs c.in_ok-progress.ensures.stage c.in_ok-append_rows.ensures.stage)
+    (rows_lead g.W.Wire.sight g.met.W.Wire.none_passes w s first mid vs c.in_ok-progress.ensures.stage c.in_ok-append_rows.ensures.stage)
     c.in_ok-ask_queries.ensures.leads)
     c.into_played.ensures.report c.into_played.ensures.altered

@@ -9,7 +9,7 @@ use Rattle.schedule_play.proofs.Loops.{length-parts, parts_all, parts_behind, pa
 use Rattle.schedule_play.proofs.play.ask_queries.Goals as goal
 
 pub loop-query-init : goal.loop-query-init
-loop-query-init g c = kept_first g.W.Wire.told g.W.Wire.alterations g.W.Wire.passes c.args.setting.now.widths (seen c.args.setting.now) Queries
+loop-query-init g c = kept_first g.W.Wire.sight c.args.setting.now.widths (seen c.args.setting.now) Queries
     g.met.W.Wire.none_passes c.args.progress.now c.args.wires.now.items c.requires.ready c.requires.wires
 
 pub steps-requires-clause-few : goal.steps-requires-clause-few
@@ -20,12 +20,12 @@ pub returns-in_err-steps-clause-stops : goal.returns-in_err-steps-clause-stops
 returns-in_err-steps-clause-stops g c =
     let p = err_from_is_err_and c.from_residual.result c.from_residual.ensures.1 in
     rw (p.1, p.2)
-    (kept_stops g.W.Wire.told g.W.Wire.alterations g.W.Wire.passes c.args.setting.now.widths (seen c.args.setting.now) Queries
+    (kept_stops g.W.Wire.sight c.args.setting.now.widths (seen c.args.setting.now) Queries
     g.met.W.Wire.both_pass _ _ _ _ _ _ (ask_steps c.loop-query.query) (parts_behind c.loop-query.query (length c.args.setting.now.queries.now) ask_steps) _ _
     (parts_all ask_steps c.loop-query.query (length c.args.setting.now.queries.now) (omega arith)) c.loop-query.invariant c.in_err-steps.ensures.stops)
 
 pub loop-query-preserved : goal.loop-query-preserved
 loop-query-preserved g c =
-    kept_more g.W.Wire.told g.W.Wire.alterations g.W.Wire.passes c.args.setting.now.widths (seen c.args.setting.now) Queries
+    kept_more g.W.Wire.sight c.args.setting.now.widths (seen c.args.setting.now) Queries
     g.met.W.Wire.both_pass _ _ _ _ _ _ (flat_map ask_steps (range_with_len 0 c.loop-query.query)) (ask_steps c.loop-query.query) _
     (parts_more ask_steps c.loop-query.query) c.loop-query.invariant c.in_ok-steps.ensures.ready c.in_ok-steps.ensures.done c.in_ok-steps.ensures.wires c.in_ok-steps.ensures.leads

@@ -6,5 +6,5 @@ use Rattle.schedule_play.proofs.Kept.{Kept}
 use Rattle.schedule_play.proofs.play.ask_queries.Given as goal
 
 abbrev pub invariant-loop-query : goal.invariant-loop-query
-invariant-loop-query g l = Kept g.W.Wire.told g.W.Wire.alterations g.W.Wire.passes l.setting.widths (seen l.setting) Queries
+invariant-loop-query g l = Kept g.W.Wire.sight l.setting.widths (seen l.setting) Queries
     l.initial.progress l.initial.wires.items (flat_map ask_steps (range_with_len 0 l.query)) l.progress l.wires.items

@@ -10,17 +10,17 @@ pub returns-in_err-progress-clause-plays : goal.returns-in_err-progress-clause-p
 returns-in_err-progress-clause-plays g c =
     let p = err_from_is_err_and c.from_residual.result c.from_residual.ensures.1 in
     rw (p.1, p.2)
-    (nothing_plays g.W.Wire.told g.W.Wire.alterations g.W.Wire.passes c.args.setting.now.widths (scheduled (seen c.args.setting.now) c.args.schedule.now) _ _ g.met.W.Wire.none_passes refl)
+    (nothing_plays g.W.Wire.sight c.args.setting.now.widths (scheduled (seen c.args.setting.now) c.args.schedule.now) _ _ g.met.W.Wire.none_passes refl)
 
 pub returns-in_err-steps-clause-plays : goal.returns-in_err-steps-clause-plays
 returns-in_err-steps-clause-plays g c =
     let p = err_from_is_err_and c.from_residual-in_err-steps.result c.from_residual-in_err-steps.ensures.1 in
     rw (p.1, p.2)
-    (stops_plays g.W.Wire.told g.W.Wire.alterations g.W.Wire.passes c.args.setting.now.widths (scheduled (seen c.args.setting.now) c.args.schedule.now) c.args.wires.now.items
+    (stops_plays g.W.Wire.sight c.args.setting.now.widths (scheduled (seen c.args.setting.now) c.args.schedule.now) c.args.wires.now.items
     c.steps.new.wires.items c.in_ok-progress.progress.done (stage_of c.in_ok-progress.progress) _ c.in_ok-progress.ensures.done c.in_ok-progress.ensures.stage c.in_err-steps.ensures.stops)
 
 pub returns-clause-plays : goal.returns-clause-plays
 returns-clause-plays g c =
-    leads_plays g.W.Wire.told g.W.Wire.alterations g.W.Wire.passes c.args.setting.now.widths (scheduled (seen c.args.setting.now) c.args.schedule.now) c.args.wires.now.items
+    leads_plays g.W.Wire.sight c.args.setting.now.widths (scheduled (seen c.args.setting.now) c.args.schedule.now) c.args.wires.now.items
     c.steps.new.wires.items (stage_of c.in_ok-progress.progress) (stage_of c.steps.new.self) c.into_played.result c.in_ok-progress.ensures.stage c.in_ok-steps.ensures.leads
     c.into_played.ensures.report c.into_played.ensures.altered

@@ -13,8 +13,8 @@ returns-in_err-two-clause-messages g c =
     let m1 = going way 1 y c.in_ok-one.one in
     let w0 = rw (c.sender.ensures, c.receiver.ensures) at c.in_ok-zero.ensures.carried in
     let w1 = rw (c.sender-2.ensures, c.receiver-2.ensures) at c.in_ok-one.ensures.carried in
-    let both = went_both g.W.Wire.told g.W.Wire.alterations g.W.Wire.passes g.met.W.Wire.both_pass _ _ _ (m0 ∷ []) (m1 ∷ []) w0 w1 in
-    let all = went_both g.W.Wire.told g.W.Wire.alterations g.W.Wire.passes g.met.W.Wire.both_pass _ _ _ (m0 ∷ m1 ∷ []) [] both c.in_err-two.ensures.kept in
+    let both = went_both g.W.Wire.sight g.met.W.Wire.both_pass _ _ _ (m0 ∷ []) (m1 ∷ []) w0 w1 in
+    let all = went_both g.W.Wire.sight g.met.W.Wire.both_pass _ _ _ (m0 ∷ m1 ∷ []) [] both c.in_err-two.ensures.kept in
     (m0 ∷ m1 ∷ [], all, group_two way x y z _ _ c.in_ok-zero.ensures.long c.in_ok-one.ensures.long, search rules)
 
 pub returns-clause-messages : goal.returns-clause-messages
@@ -29,8 +29,8 @@ returns-clause-messages g c =
     let w0 = rw (c.sender.ensures, c.receiver.ensures) at c.in_ok-zero.ensures.carried in
     let w1 = rw (c.sender-2.ensures, c.receiver-2.ensures) at c.in_ok-one.ensures.carried in
     let w2 = rw (c.sender-3.ensures, c.receiver-3.ensures) at c.in_ok-two.ensures.carried in
-    let both = went_both g.W.Wire.told g.W.Wire.alterations g.W.Wire.passes g.met.W.Wire.both_pass _ _ _ (m0 ∷ []) (m1 ∷ []) w0 w1 in
-    let all = went_both g.W.Wire.told g.W.Wire.alterations g.W.Wire.passes g.met.W.Wire.both_pass _ _ _ (m0 ∷ m1 ∷ []) (m2 ∷ []) both w2 in (
+    let both = went_both g.W.Wire.sight g.met.W.Wire.both_pass _ _ _ (m0 ∷ []) (m1 ∷ []) w0 w1 in
+    let all = went_both g.W.Wire.sight g.met.W.Wire.both_pass _ _ _ (m0 ∷ m1 ∷ []) (m2 ∷ []) both w2 in (
       m0 ∷ m1 ∷ m2 ∷ [],
       all,
       group_three way x y z _ _ _ c.in_ok-zero.ensures.long c.in_ok-one.ensures.long c.in_ok-two.ensures.long,
@@ -43,5 +43,5 @@ returns-in_err-one-clause-messages g c =
     let x = c.args.words.zero in
     let m0 = going way 0 x c.in_ok-zero.zero in
     let w0 = rw (c.sender.ensures, c.receiver.ensures) at c.in_ok-zero.ensures.carried in
-    let all = went_both g.W.Wire.told g.W.Wire.alterations g.W.Wire.passes g.met.W.Wire.both_pass _ _ _ (m0 ∷ []) [] w0 c.in_err-one.ensures.kept in
+    let all = went_both g.W.Wire.sight g.met.W.Wire.both_pass _ _ _ (m0 ∷ []) [] w0 c.in_err-one.ensures.kept in
     (m0 ∷ [], all, group_one way x c.args.words.one c.args.words.two _ c.in_ok-zero.ensures.long, search rules)

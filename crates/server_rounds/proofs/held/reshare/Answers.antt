@@ -5,7 +5,7 @@ use Rattle.server_rounds.proofs.held.reshare.Goals as goal
 
 pub returns-in_err-sent-clause-messages : goal.returns-in_err-sent-clause-messages
 returns-in_err-sent-clause-messages g c =
-    ([], went_none g.W.Wire.told g.W.Wire.alterations g.W.Wire.passes _ _ refl refl (g.met.W.Wire.none_passes _), group_none _ _, search rules)
+    ([], went_none g.W.Wire.sight _ _ refl refl (g.met.W.Wire.none_passes _), group_none _ _, search rules)
 
 pub returns-in_err-got-clause-messages : goal.returns-in_err-got-clause-messages
 returns-in_err-got-clause-messages g c =

@@ -7,7 +7,7 @@ use Rattle.server_rounds.proofs.rounds.opening_round.Goals as goal
 
 pub returns-in_err-words-clause-messages : goal.returns-in_err-words-clause-messages
 returns-in_err-words-clause-messages g c =
-    ([], went_none g.W.Wire.told g.W.Wire.alterations g.W.Wire.passes _ _ refl refl (g.met.W.Wire.none_passes _), group_none _ _, search rules)
+    ([], went_none g.W.Wire.sight _ _ refl refl (g.met.W.Wire.none_passes _), group_none _ _, search rules)
 
 pub open_words-requires-clause-zero : goal.open_words-requires-clause-zero
 open_words-requires-clause-zero g c = IfOk-at_ok _ c.in_ok-words.ensures.at0 c.openings_at_once-zero.ensures.zero.long

@@ -6,7 +6,7 @@ use Rattle.server_rounds.proofs.rounds.product_round.Goals as goal
 
 pub returns-in_err-words-clause-messages : goal.returns-in_err-words-clause-messages
 returns-in_err-words-clause-messages g c =
-    ([], went_none g.W.Wire.told g.W.Wire.alterations g.W.Wire.passes _ _ refl refl (g.met.W.Wire.none_passes _), group_none _ _, search rules)
+    ([], went_none g.W.Wire.sight _ _ refl refl (g.met.W.Wire.none_passes _), group_none _ _, search rules)
 
 pub reshare-requires-clause-one : goal.reshare-requires-clause-one
 reshare-requires-clause-one g c =

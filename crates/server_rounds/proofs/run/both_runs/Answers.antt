@@ -86,7 +86,7 @@ returns-in_err-total-clause-messages g c =
     let ending = total_ending z in
     let b0 = after_keys z ending words read pieces views k.0 k.2 k.3 in
     let r = rw plan at c.in_err-total.ensures.messages in
-    let went = went_both g.W.Wire.told g.W.Wire.alterations g.W.Wire.passes g.met.W.Wire.both_pass _ _ _ k.0 r.0 k.1 r.1 in
+    let went = went_both g.W.Wire.sight g.met.W.Wire.both_pass _ _ _ k.0 r.0 k.1 r.1 in
     (k.0 ++ r.0, went, r.2 words read k.0 b0, search rules)
 
 pub returns-in_err-weighted-clause-messages : goal.returns-in_err-weighted-clause-messages
@@ -105,8 +105,8 @@ returns-in_err-weighted-clause-messages g c =
     let r = rw plan at c.in_ok-total.ensures.messages in
     let w = rw (plan, c.in_ok-total.ensures.zero, c.in_ok-total.ensures.one, c.in_ok-total.ensures.two) at c.in_err-weighted.ensures.messages in
     let b1 = after_run z ending words read pieces views k.0 r.0 0 _ b0 r.2 r.3 in
-    let first = went_both g.W.Wire.told g.W.Wire.alterations g.W.Wire.passes g.met.W.Wire.both_pass _ _ _ k.0 r.0 k.1 r.1 in
-    let went = went_both g.W.Wire.told g.W.Wire.alterations g.W.Wire.passes g.met.W.Wire.both_pass _ _ _ (k.0 ++ r.0) w.0 first w.1 in
+    let first = went_both g.W.Wire.sight g.met.W.Wire.both_pass _ _ _ k.0 r.0 k.1 r.1 in
+    let went = went_both g.W.Wire.sight g.met.W.Wire.both_pass _ _ _ (k.0 ++ r.0) w.0 first w.1 in
     ((k.0 ++ r.0) ++ w.0, went, w.2 words read (k.0 ++ r.0) b1, search rules)
 
 pub returns-clause-messages : goal.returns-clause-messages
@@ -125,8 +125,8 @@ returns-clause-messages g c =
     let r = rw plan at c.in_ok-total.ensures.messages in
     let w = rw (plan, c.in_ok-total.ensures.zero, c.in_ok-total.ensures.one, c.in_ok-total.ensures.two) at c.in_ok-weighted.ensures.messages in
     let b1 = after_run z ending words read pieces views k.0 r.0 0 _ b0 r.2 r.3 in
-    let first = went_both g.W.Wire.told g.W.Wire.alterations g.W.Wire.passes g.met.W.Wire.both_pass _ _ _ k.0 r.0 k.1 r.1 in
-    let went = went_both g.W.Wire.told g.W.Wire.alterations g.W.Wire.passes g.met.W.Wire.both_pass _ _ _ (k.0 ++ r.0) w.0 first w.1 in
+    let first = went_both g.W.Wire.sight g.met.W.Wire.both_pass _ _ _ k.0 r.0 k.1 r.1 in
+    let went = went_both g.W.Wire.sight g.met.W.Wire.both_pass _ _ _ (k.0 ++ r.0) w.0 first w.1 in
     let some : 0 < count_of z = rw plan at c.in_ok-total.ensures.some in
     let part = w.2 words read (k.0 ++ r.0) b1 in
     ((k.0 ++ r.0) ++ w.0, went, part, whole_pair z ending words read pieces views k.0 r.0 w.0 0 _ _ some b0 b1 r.3 part w.3)

@@ -9,8 +9,8 @@ returns-in_err-product-clause-messages g c =
     let b = c.in_ok-bits.ensures.messages in
     let p = c.in_err-product.ensures.messages in
     let none = none_matched _ _ _ c.in_ok-bits.ensures.chain p.2 in
-    let went = went_both g.W.Wire.told g.W.Wire.alterations g.W.Wire.passes g.met.W.Wire.both_pass _ _ _ b.0 p.0 b.1 p.1 in
-    (b.0, went_just g.W.Wire.told g.W.Wire.alterations g.W.Wire.passes _ _ b.0 p.0 none went, b.2, search rules)
+    let went = went_both g.W.Wire.sight g.met.W.Wire.both_pass _ _ _ b.0 p.0 b.1 p.1 in
+    (b.0, went_just g.W.Wire.sight _ _ b.0 p.0 none went, b.2, search rules)
 
 pub returns-clause-messages : goal.returns-clause-messages
 returns-clause-messages g c =
@@ -18,8 +18,8 @@ returns-clause-messages g c =
     let p = c.in_ok-product.ensures.messages in
     let none = none_matched _ _ _ c.in_ok-bits.ensures.chain p.2 in
     let same = none_matched _ _ _ c.in_ok-bits.ensures.chain p.3 in
-    let went = went_both g.W.Wire.told g.W.Wire.alterations g.W.Wire.passes g.met.W.Wire.both_pass _ _ _ b.0 p.0 b.1 p.1 in
-    (b.0, went_just g.W.Wire.told g.W.Wire.alterations g.W.Wire.passes _ _ b.0 p.0 none went, b.2, rw same b.3)
+    let went = went_both g.W.Wire.sight g.met.W.Wire.both_pass _ _ _ b.0 p.0 b.1 p.1 in
+    (b.0, went_just g.W.Wire.sight _ _ b.0 p.0 none went, b.2, rw same b.3)
 
 pub returns-in_err-product-clause-visits : goal.returns-in_err-product-clause-visits
 returns-in_err-product-clause-visits g c = all_fails g.S.Shelf.held g.S.Shelf.visited _ _ _ _ _ c.from_residual-in_err-product.ensures.0 c.in_ok-bits.ensures.visits

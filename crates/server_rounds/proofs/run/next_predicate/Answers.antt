@@ -30,7 +30,7 @@ returns-in_err-product-clause-messages g c =
     let bits = c.in_ok-bits.bits in
     let group = rw (c.in_ok-bits.ensures.plan, c.in_ok-bits.ensures.run, c.in_ok-bits.ensures.j) at (some_matched bits.chain c.args.chain.chain _ _ c.in_ok-bits.ensures.chain p.2) in (
       b.0 ++ p.0,
-      went_both g.W.Wire.told g.W.Wire.alterations g.W.Wire.passes g.met.W.Wire.both_pass _ _ _ b.0 p.0 b.1 p.1,
+      went_both g.W.Wire.sight g.met.W.Wire.both_pass _ _ _ b.0 p.0 b.1 p.1,
       (
         record {
           bit_messages = b.0;
@@ -52,7 +52,7 @@ returns-clause-messages g c =
     let bits = c.in_ok-bits.bits in
     let group = rw (c.in_ok-bits.ensures.plan, c.in_ok-bits.ensures.run, c.in_ok-bits.ensures.j) at (some_matched bits.chain c.args.chain.chain _ _ c.in_ok-bits.ensures.chain p.2) in (
       b.0 ++ p.0,
-      went_both g.W.Wire.told g.W.Wire.alterations g.W.Wire.passes g.met.W.Wire.both_pass _ _ _ b.0 p.0 b.1 p.1,
+      went_both g.W.Wire.sight g.met.W.Wire.both_pass _ _ _ b.0 p.0 b.1 p.1,
       (
         record {
           bit_messages = b.0;

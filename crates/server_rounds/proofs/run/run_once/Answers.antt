@@ -45,7 +45,7 @@ pub returns-in_err-opened-clause-messages : goal.returns-in_err-opened-clause-me
 returns-in_err-opened-clause-messages g c =
     let p = c.in_ok-product.ensures in
     let o = rw (p.zero, p.one, p.two, p.plan, p.run) at c.in_err-opened.ensures.messages in
-    let went = went_both g.W.Wire.told g.W.Wire.alterations g.W.Wire.passes g.met.W.Wire.both_pass _ _ _ p.messages.0 o.0 p.messages.1 o.1 in
+    let went = went_both g.W.Wire.sight g.met.W.Wire.both_pass _ _ _ p.messages.0 o.0 p.messages.1 o.1 in
     (p.messages.0 ++ o.0, went, opening_part _ _ _ _ _ p.messages.0 o.0 c.requires.run p.messages.3 o.2, search rules)
 
 pub returns-clause-some : goal.returns-clause-some
@@ -55,7 +55,7 @@ pub returns-clause-messages : goal.returns-clause-messages
 returns-clause-messages g c =
     let p = c.in_ok-product.ensures in
     let o = rw (p.zero, p.one, p.two, p.plan, p.run) at c.in_ok-opened.ensures.messages in
-    let went = went_both g.W.Wire.told g.W.Wire.alterations g.W.Wire.passes g.met.W.Wire.both_pass _ _ _ p.messages.0 o.0 p.messages.1 o.1 in (
+    let went = went_both g.W.Wire.sight g.met.W.Wire.both_pass _ _ _ p.messages.0 o.0 p.messages.1 o.1 in (
       p.messages.0 ++ o.0,
       went,
       opening_part _ _ _ _ _ p.messages.0 o.0 c.requires.run p.messages.3 o.2,

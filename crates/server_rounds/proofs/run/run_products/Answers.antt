@@ -56,7 +56,7 @@ returns-in_err-product-2-clause-messages g c =
     let i = c.loop-j.invariant in
     let m = rw (i.zero, i.one, i.two, i.plan, i.run, i.j) at c.in_err-product-2.ensures.messages in
     let some : c.loop-j._j < count_of c.args.ready.now.plan = omega (arith, c.loop-j-test.true, c.count-count.ensures.value) in
-    let went = went_both g.W.Wire.told g.W.Wire.alterations g.W.Wire.passes g.met.W.Wire.both_pass _ _ _ i.messages.0 m.0 i.messages.1 m.1 in
+    let went = went_both g.W.Wire.sight g.met.W.Wire.both_pass _ _ _ i.messages.0 m.0 i.messages.1 m.1 in
     (i.messages.0 ++ m.0, went, λ ending. predicate_part _ ending _ _ _ _ _ i.messages.0 m.0 c.requires.run some i.messages.2 m.2.0, search rules)
 
 pub loop-j-preserved : goal.loop-j-preserved
@@ -64,7 +64,7 @@ loop-j-preserved g c =
     let i = c.loop-j.invariant in
     let m = rw (i.zero, i.one, i.two, i.plan, i.run, i.j) at c.in_ok-product-2.ensures.messages in
     let some : c.loop-j._j < count_of c.args.ready.now.plan = omega (arith, c.loop-j-test.true, c.count-count.ensures.value) in
-    let went = went_both g.W.Wire.told g.W.Wire.alterations g.W.Wire.passes g.met.W.Wire.both_pass _ _ _ i.messages.0 m.0 i.messages.1 m.1 in
+    let went = went_both g.W.Wire.sight g.met.W.Wire.both_pass _ _ _ i.messages.0 m.0 i.messages.1 m.1 in
     record {
       zero = c.in_ok-product-2.ensures.zero ∙ i.zero;
       one = c.in_ok-product-2.ensures.one ∙ i.one;

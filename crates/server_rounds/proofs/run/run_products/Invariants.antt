@@ -20,7 +20,7 @@ invariant-loop-j g l =
       run : l.product.run ≡ l.run;
       j : l.product.j + 1 ≡ l._j;
       visits : AllVisited held g.S.Shelf.visited (listed l._j (column_of l.ready.plan)) l.fn.shelves l.shelves (Ok l.product);
-      messages : (ms : List Message) × Went g.W.Wire.told g.W.Wire.alterations g.W.Wire.passes l.fn.wire ms l.wire
+      messages : (ms : List Message) × Went g.W.Wire.sight l.fn.wire ms l.wire
           × HaveProducts l.ready.plan
           (by_server (pieces_of (map held l.fn.shelves.zero.items)) (pieces_of (map held l.fn.shelves.one.items)) (pieces_of (map held l.fn.shelves.two.items)))
           l.run (views_of l.ready.keys) l._j l.product.chain ms;

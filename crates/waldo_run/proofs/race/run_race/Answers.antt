@@ -4,6 +4,6 @@ use Rattle.waldo_run.proofs.Wires.{rose_unless}
 use Rattle.waldo_run.proofs.race.run_race.Goals as goal
 
 pub returns-in-Ok-clause-altered : goal.returns-in-Ok-clause-altered
-returns-in-Ok-clause-altered g c = λ seven. rose_unless g.W.Wire.alterations c.args.wires.now.items _
+returns-in-Ok-clause-altered g c = λ seven. rose_unless g.W.Wire.sight c.args.wires.now.items _
     (λ still. c.in-Ok.ensures.accepted still
     (sym (own_status c.in-Ok.reply _ _ (λ four. omega (arith, four, seven)) (c.finish.ensures.puts (λ six. omega (arith, six, seven)))) ∙ seven))

@@ -9,7 +9,7 @@ pub returns-in-Err-clause-answers : goal.returns-in-Err-clause-answers
 returns-in-Err-clause-answers g c =
     let command = c.args.command.now in
     fault_answers command c.widths-widths.result (search rules) c.in-Err.fault (rows_in (common_in command) c.args.bytes.items) _ _
-    (still_wires g.W.Wire.told g.W.Wire.alterations g.W.Wire.passes g.met.W.Wire.none_passes c.args.wires.now.items)
+    (still_wires g.W.Wire.sight g.met.W.Wire.none_passes c.args.wires.now.items)
     (λ some. elim c.in-Err.ensures.exact [ inl memory ↦ absurd (some memory) | inr read ↦ search rules ])
     c.refused_rows.result c.refused_rows.ensures
 

@@ -13,7 +13,7 @@ use Rattle.waldo_run.proofs.still.answer_made.Goals as goal
 pub returns-in_err-rows-clause-answers : goal.returns-in_err-rows-clause-answers
 returns-in_err-rows-clause-answers g c =
     none_answers c.args.command.now c.widths-widths.result (search rules) (Ok (rows_made c.args.command.now)) _ _
-    (still_wires g.W.Wire.told g.W.Wire.alterations g.W.Wire.passes g.met.W.Wire.none_passes c.args.wires.now.items) c.from_residual.result (search rules)
+    (still_wires g.W.Wire.sight g.met.W.Wire.none_passes c.args.wires.now.items) c.from_residual.result (search rules)
 
 pub answer_rows-requires-clause-few : goal.answer_rows-requires-clause-few
 answer_rows-requires-clause-few g c =

@@ -5,7 +5,7 @@ use Rattle.agreed_rows.proofs.OverRows.{all_over_same, are_shelves_of, no_part, 
 use Rattle.agreed_rows.proofs.agreement.Agreement.open_pair.Goals as goal
 
 pub returns-in_err-shelves-clause-messages : goal.returns-in_err-shelves-clause-messages
-returns-in_err-shelves-clause-messages g c = ([], went_none g.W.Wire.told g.W.Wire.alterations g.W.Wire.passes _ _ refl refl (g.met.W.Wire.none_passes _), no_part _, search rules)
+returns-in_err-shelves-clause-messages g c = ([], went_none g.W.Wire.sight _ _ refl refl (g.met.W.Wire.none_passes _), no_part _, search rules)
 
 pub both_runs-requires-clause-few : goal.both_runs-requires-clause-few
 both_runs-requires-clause-few g c κs within = omega (arith, rows_are _ _ _ _ c.requires.zero c.in_ok-shelves.ensures.zero, c.requires.few)

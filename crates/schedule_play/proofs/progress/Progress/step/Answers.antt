@@ -14,13 +14,13 @@ use Rattle.schedule_play.proofs.progress.Progress.step.Goals as goal
 
 pub returns-then-actor-ge-ACTORS-clause-stops : goal.returns-then-actor-ge-ACTORS-clause-stops
 returns-then-actor-ge-ACTORS-clause-stops g c =
-    step_refused g.W.Wire.told g.W.Wire.alterations g.W.Wire.passes g.met.W.Wire.none_passes c.args.setting.now.widths (seen c.args.setting.now) c.args.style (stage_of c.args.self.now)
+    step_refused g.W.Wire.sight g.met.W.Wire.none_passes c.args.setting.now.widths (seen c.args.setting.now) c.args.style (stage_of c.args.self.now)
     c.args.step c.args.wires.now.items c.args.self.now.done
     (no_actor (seen c.args.setting.now) c.args.style (stage_of c.args.self.now) c.args.step (omega (arith, c.requires.ready.actors, c.actor_in-actor.ensures, c.if-actor-ge-ACTORS.true)))
 
 pub returns-in_default-clause-stops : goal.returns-in_default-clause-stops
 returns-in_default-clause-stops g c =
-    step_refused g.W.Wire.told g.W.Wire.alterations g.W.Wire.passes g.met.W.Wire.none_passes c.args.setting.now.widths (seen c.args.setting.now) c.args.style (stage_of c.args.self.now)
+    step_refused g.W.Wire.sight g.met.W.Wire.none_passes c.args.setting.now.widths (seen c.args.setting.now) c.args.style (stage_of c.args.self.now)
     c.args.step c.args.wires.now.items c.args.self.now.done
     (no_event (seen c.args.setting.now) c.args.style (stage_of c.args.self.now) c.args.step (sym c.in_default.ensures))
 
@@ -37,7 +37,7 @@ returns-in_err-count-in-Ok-clause-stops g c =
     let stage = stage_of c.args.self.now in
     let e = sym c.in-Some.ensures in
     rw (p.1, p.2)
-    (step_unreported g.W.Wire.told g.W.Wire.alterations g.W.Wire.passes g.met.W.Wire.none_passes c.args.setting.now.widths s c.args.style stage c.args.step c.args.wires.now.items
+    (step_unreported g.W.Wire.sight g.met.W.Wire.none_passes c.args.setting.now.widths s c.args.style stage c.args.step c.args.wires.now.items
     c.args.self.now.done c.in-Some.event h.0 h.1 c.step.new.self.core c.in-Ok.reply c.from.result c.index_mut-wire.result.now c.step.new.wire e
     (subst (λ (w : Widths). Carries w stage.core c.in-Some.event h.0 h.1) c.requires.ready.widths h.3.1)
     (sym (ap (λ (n : ℕ). step_at n stage.core c.in-Some.event h.1) c.requires.ready.capacity) ∙ h.3.2)
@@ -57,7 +57,7 @@ returns-in_ok-count-in-Ok-clause-leads g c =
     let s = seen c.args.setting.now in
     let stage = stage_of c.args.self.now in
     let e = sym c.in-Some.ensures in
-    step_leads g.W.Wire.told g.W.Wire.alterations g.W.Wire.passes g.met.W.Wire.none_passes c.args.setting.now.widths s c.args.style stage c.args.step c.args.wires.now.items
+    step_leads g.W.Wire.sight g.met.W.Wire.none_passes c.args.setting.now.widths s c.args.style stage c.args.step c.args.wires.now.items
     c.in-Some.event h.0 h.1 c.step.new.self.core c.in-Ok.reply c.from.result c.index_mut-wire.result.now c.step.new.wire (stage_of c.count.new.self) e
     (subst (λ (w : Widths). Carries w stage.core c.in-Some.event h.0 h.1) c.requires.ready.widths h.3.1)
     (sym (ap (λ (n : ℕ). step_at n stage.core c.in-Some.event h.1) c.requires.ready.capacity) ∙ h.3.2) c.in_ok-count-in-Ok.ensures.stage
@@ -70,7 +70,7 @@ returns-in-Err-NotAllowed-clause-stops g c =
     let s = seen c.args.setting.now in
     let stage = stage_of c.args.self.now in
     let e = sym c.in-Some.ensures in
-    step_refused_at g.W.Wire.told g.W.Wire.alterations g.W.Wire.passes g.met.W.Wire.none_passes c.args.setting.now.widths s c.args.style stage c.args.step c.args.wires.now.items
+    step_refused_at g.W.Wire.sight g.met.W.Wire.none_passes c.args.setting.now.widths s c.args.style stage c.args.step c.args.wires.now.items
     c.args.self.now.done c.from.result c.index_mut-wire.result.now c.step.new.wire
     (no_case s c.args.style stage c.args.step c.args.self.now.machine c.in-Some.event e c.requires.ready.capacity refl
     (subst (λ (w : Widths). Suited w c.in-Some.event) (sym c.requires.ready.widths) (event_suited s stage c.args.setting.now.widths c.args.step c.in-Some.event c.requires.legal.suits e)) h.3.2)
@@ -82,7 +82,7 @@ returns-in-Err-Memory-clause-stops g c =
     let s = seen c.args.setting.now in
     let stage = stage_of c.args.self.now in
     let e = sym c.in-Some.ensures in
-    step_begun g.W.Wire.told g.W.Wire.alterations g.W.Wire.passes g.met.W.Wire.none_passes c.args.setting.now.widths s c.args.style stage c.args.step c.args.wires.now.items
+    step_begun g.W.Wire.sight g.met.W.Wire.none_passes c.args.setting.now.widths s c.args.style stage c.args.step c.args.wires.now.items
     c.args.self.now.done c.in-Some.event h.0 c.from.result c.index_mut-wire.result.now c.step.new.wire e
     (subst (λ (w : Widths). Begins w stage.core c.in-Some.event h.0) c.requires.ready.widths h.3.0)
     (sym (c.from.ensures ∙ c.actor_in-actor.ensures)) (omega (arith, c.requires.wires, c.from.ensures, c.if-actor-ge-ACTORS.false)) c.index_mut-wire.ensures.value

@@ -8,7 +8,7 @@ use Rattle.schedule_play.proofs.Loops.{steps_all}
 use Rattle.schedule_play.proofs.progress.Progress.steps.Goals as goal
 
 pub loop-step-init : goal.loop-step-init
-loop-step-init g c = kept_first g.W.Wire.told g.W.Wire.alterations g.W.Wire.passes c.args.setting.now.widths (seen c.args.setting.now) c.args.style
+loop-step-init g c = kept_first g.W.Wire.sight c.args.setting.now.widths (seen c.args.setting.now) c.args.style
     g.met.W.Wire.none_passes c.args.self.now c.args.wires.now.items c.requires.ready c.requires.wires
 
 pub returns-in_err-step-clause-stops : goal.returns-in_err-step-clause-stops
@@ -17,7 +17,7 @@ returns-in_err-step-clause-stops g c =
     let xs = c.args.steps.now in
     let i = c.loop-step.step-index in
     rw (p.1, p.2)
-    (kept_stops g.W.Wire.told g.W.Wire.alterations g.W.Wire.passes c.args.setting.now.widths (seen c.args.setting.now) c.args.style
+    (kept_stops g.W.Wire.sight c.args.setting.now.widths (seen c.args.setting.now) c.args.style
     g.met.W.Wire.both_pass c.args.self.now c.loop-step.self c.args.wires.now.items c.loop-step.wires.items c.step.new.wires.items
     (take i xs) (get_or xs i (Draw 0) ∷ []) (drop (i + 1) xs) xs c.in_err-step.field-0.0
     (steps_all xs i (Draw 0) c.loop-step-test.true) c.loop-step.invariant c.in_err-step.ensures.stops)
@@ -26,7 +26,7 @@ pub loop-step-preserved : goal.loop-step-preserved
 loop-step-preserved g c =
     let xs = c.args.steps.now in
     let i = c.loop-step.step-index in
-    kept_more g.W.Wire.told g.W.Wire.alterations g.W.Wire.passes c.args.setting.now.widths (seen c.args.setting.now) c.args.style
+    kept_more g.W.Wire.sight c.args.setting.now.widths (seen c.args.setting.now) c.args.style
     g.met.W.Wire.both_pass c.args.self.now c.loop-step.self c.step.new.self c.args.wires.now.items c.loop-step.wires.items c.step.new.wires.items
     (take i xs) (get_or xs i (Draw 0) ∷ []) (take (i + 1) xs) (take_more xs i (Draw 0) c.loop-step-test.true) c.loop-step.invariant
     c.in_ok-step.ensures.ready c.in_ok-step.ensures.done c.in_ok-step.ensures.wires c.in_ok-step.ensures.leads

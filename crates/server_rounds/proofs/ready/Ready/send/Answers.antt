@@ -13,15 +13,15 @@ new-plan-requires g c = rw (c.widths.ensures, c.shape.ensures.shape) (legal_quer
 
 pub returns-in_err-zero-clause-messages : goal.returns-in_err-zero-clause-messages
 returns-in_err-zero-clause-messages g c =
-    ([], went_none g.W.Wire.told g.W.Wire.alterations g.W.Wire.passes _ _ refl refl (g.met.W.Wire.none_passes _), group_none _ _, search rules)
+    ([], went_none g.W.Wire.sight _ _ refl refl (g.met.W.Wire.none_passes _), group_none _ _, search rules)
 
 pub returns-in_err-one-clause-messages : goal.returns-in_err-one-clause-messages
 returns-in_err-one-clause-messages g c =
-    ([], went_none g.W.Wire.told g.W.Wire.alterations g.W.Wire.passes _ _ refl refl (g.met.W.Wire.none_passes _), group_none _ _, search rules)
+    ([], went_none g.W.Wire.sight _ _ refl refl (g.met.W.Wire.none_passes _), group_none _ _, search rules)
 
 pub returns-in_err-two-clause-messages : goal.returns-in_err-two-clause-messages
 returns-in_err-two-clause-messages g c =
-    ([], went_none g.W.Wire.told g.W.Wire.alterations g.W.Wire.passes _ _ refl refl (g.met.W.Wire.none_passes _), group_none _ _, search rules)
+    ([], went_none g.W.Wire.sight _ _ refl refl (g.met.W.Wire.none_passes _), group_none _ _, search rules)
 
 pub returns-in_err-got-clause-messages : goal.returns-in_err-got-clause-messages
 returns-in_err-got-clause-messages g c =

@@ -10,7 +10,7 @@ returns-in-Draw-clause-stepped g c =
     let event = events.Draw c.in-Draw.actor c.in-Draw.row c.in-Draw.seed in (
       [],
       nothing,
-      went_none g.W.Wire.told g.W.Wire.alterations g.W.Wire.passes _ _ refl refl (g.met.W.Wire.none_passes _),
+      went_none g.W.Wire.sight _ _ refl refl (g.met.W.Wire.none_passes _),
       quiet_stepped c.args.self.now c.args.event event c.draw.new.self c.draw.result c.in-Draw.is c.draw.ensures,
       λ honest. quiet_plain c.args.self.now c.args.event event c.draw.new.self c.draw.result c.in-Draw.is tt tt c.draw.ensures,
     )
@@ -20,7 +20,7 @@ returns-in-Place-clause-stepped g c =
     let event = events.Place c.in-Place.actor c.in-Place.server in (
       [],
       nothing,
-      went_none g.W.Wire.told g.W.Wire.alterations g.W.Wire.passes _ _ refl refl (g.met.W.Wire.none_passes _),
+      went_none g.W.Wire.sight _ _ refl refl (g.met.W.Wire.none_passes _),
       quiet_stepped c.args.self.now c.args.event event c.place.new.self (Ok c.place.result) c.in-Place.is c.place.ensures,
       λ honest. quiet_plain c.args.self.now c.args.event event c.place.new.self (Ok c.place.result) c.in-Place.is tt tt c.place.ensures,
     )
@@ -30,7 +30,7 @@ returns-in-Look-clause-stepped g c =
     let event = events.Look c.in-Look.actor c.in-Look.server in (
       [],
       nothing,
-      went_none g.W.Wire.told g.W.Wire.alterations g.W.Wire.passes _ _ refl refl (g.met.W.Wire.none_passes _),
+      went_none g.W.Wire.sight _ _ refl refl (g.met.W.Wire.none_passes _),
       quiet_stepped c.args.self.now c.args.event event c.look.new.self (Ok c.look.result) c.in-Look.is c.look.ensures,
       λ honest. quiet_plain c.args.self.now c.args.event event c.look.new.self (Ok c.look.result) c.in-Look.is tt tt c.look.ensures,
     )
@@ -40,7 +40,7 @@ returns-in-Fix-clause-stepped g c =
     let event = events.Fix c.in-Fix.actor in (
       [],
       nothing,
-      went_none g.W.Wire.told g.W.Wire.alterations g.W.Wire.passes _ _ refl refl (g.met.W.Wire.none_passes _),
+      went_none g.W.Wire.sight _ _ refl refl (g.met.W.Wire.none_passes _),
       quiet_stepped c.args.self.now c.args.event event c.fix.new.self c.fix.result c.in-Fix.is c.fix.ensures,
       λ honest. quiet_plain c.args.self.now c.args.event event c.fix.new.self c.fix.result c.in-Fix.is tt tt c.fix.ensures,
     )

@@ -12,7 +12,7 @@ pub returns-in_default-clause-stepped : goal.returns-in_default-clause-stepped
 returns-in_default-clause-stepped g c = (
   [],
   nothing,
-  went_none g.W.Wire.told g.W.Wire.alterations g.W.Wire.passes _ _ refl refl (g.met.W.Wire.none_passes _),
+  went_none g.W.Wire.sight _ _ refl refl (g.met.W.Wire.none_passes _),
   not_agreed c.args.self.now c.args.number c.args.query.now c.args.seed.now c.in_default.ensures.none nothing,
   λ honest. tt,
 )
@@ -22,7 +22,7 @@ returns-then-not-suits-clause-stepped g c =
     let unfit = iff_false c.suits.ensures c.if-not-suits.true in (
       [],
       nothing,
-      went_none g.W.Wire.told g.W.Wire.alterations g.W.Wire.passes _ _ refl refl (g.met.W.Wire.none_passes _),
+      went_none g.W.Wire.sight _ _ refl refl (g.met.W.Wire.none_passes _),
       not_suited c.args.self.now c.args.number c.args.query.now c.args.seed.now
           (λ suits. unfit (subst (λ (v : Seen). Suits v.widths.columns v.widths.bits c.args.query.now) (sym c.self.view_is) suits)) nothing,
       λ honest. tt,

@@ -9,7 +9,7 @@ nothing = record { total = 0; weighted = 0 }
 
 pub returns-in-Err-clause-asked : goal.returns-in-Err-clause-asked
 returns-in-Err-clause-asked g c =
-    ([], nothing, went_none g.W.Wire.told g.W.Wire.alterations g.W.Wire.passes _ _ refl refl (g.met.W.Wire.none_passes _), rw c.asked.ensures (asked_fault _ _ _ _ _ nothing c.in-Err.fault c.in-Err.ensures.again c.in-Err.ensures.floor), λ honest. rw c.asked.ensures (plain_fault c.args.self.now.widths c.agree.new.pass c.args.query.now c.in-Err.fault))
+    ([], nothing, went_none g.W.Wire.sight _ _ refl refl (g.met.W.Wire.none_passes _), rw c.asked.ensures (asked_fault _ _ _ _ _ nothing c.in-Err.fault c.in-Err.ensures.again c.in-Err.ensures.floor), λ honest. rw c.asked.ensures (plain_fault c.args.self.now.widths c.agree.new.pass c.args.query.now c.in-Err.fault))
 
 pub returns-in-Err-clause-plain : goal.returns-in-Err-clause-plain
 returns-in-Err-clause-plain g c still = rw c.asked.ensures (plain_fault c.args.self.now.widths c.agree.new.pass c.args.query.now c.in-Err.fault)

@@ -1,0 +1,24 @@
+-- What alterations did to the two totals that are opened.
+use Rattle.std.specs.Prelude.{ℕ}
+use Rattle.ring128.specs.Ring.{plus, minus, times}
+use Rattle.weighted_check.specs.Check.{Accepts}
+
+-- by how much the opened total is off: it, minus the plain total
+abbrev pub total_shift : ℕ → ℕ → ℕ
+total_shift total plain = minus total plain
+
+-- by how much the opened weighted total is off: it, minus the key times the plain total
+abbrev pub weighted_shift : ℕ → ℕ → ℕ → ℕ
+weighted_shift weighted key plain = minus weighted (times key plain)
+
+-- the total that is opened where a plain one is shifted
+abbrev pub shifted_total : ℕ → ℕ → ℕ
+shifted_total plain d = plus plain d
+
+-- the weighted total that is opened where the key times a plain total is shifted
+abbrev pub shifted_weighted : ℕ → ℕ → ℕ → ℕ
+shifted_weighted key plain e = plus (times key plain) e
+
+-- the check accepts the pair that is opened where the total is shifted by d and the weighted total by e
+abbrev pub Passes : ℕ → ℕ → ℕ → ℕ → Type 0
+Passes plain d e key = Accepts (shifted_total plain d) (shifted_weighted key plain e) key
