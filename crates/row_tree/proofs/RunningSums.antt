@@ -8,8 +8,10 @@ use Rattle.std.proofs.lemmas.Nat.{mul-le}
 use Rattle.list_facts.specs.Listed.{listed}
 use Rattle.list_facts.proofs.Listed.{length-listed, get_or-listed, listed_more, listed_same}
 use Rattle.ring128.specs.Ring.{plus, minus, total_of}
-use Rattle.std.proofs.lemmas.List.{take_all}
+use Rattle.std.proofs.lemmas.List.{length-take, take_all}
 use Rattle.std.proofs.Math.Pow.{pow_mono}
+use Rattle.scan_chunks.specs.Pieces.{chunk_of, chunks_of}
+use Rattle.scan_chunks.proofs.Chunks.{all_chunks, chunk_more}
 use Rattle.scan_chunks.specs.declared.visit.Visit.{Visit}
 use Rattle.scan_chunks.specs.Scan.{VisitsPart}
 use Rattle.row_tree.specs.Running.{GrownFrom, before_of, cell_in, cells_in, last_of}
@@ -130,3 +132,40 @@ low_node index height rows there few = ⊎_elim
 pub on_err : {T E : Type 0} (r : Result T E) (P : Type 0) → P → OnErr r P
 on_err (Ok x) P p = tt
 on_err (Err e) P p = p
+
+-- two lists that were appended, one after the other
+pub grown_both : (old now new : List ℕ) → GrownFrom old now → GrownFrom now new → GrownFrom old new
+grown_both old now new g h = grown_more old now new h.0 g h.1
+
+-- there is room for the next chunk
+pub chunk_fits : (w rows c room : ℕ) (old now cells chunk : List ℕ) → length cells ≡ rows * w → length old + rows * w ≤ room
+    → cells_in w now ≡ cells_in w old ++ take (64 * w * c) cells → chunk ≡ chunk_of w c cells → length now + length chunk ≤ room
+chunk_fits w rows c room old now cells chunk all fits so_far is =
+    let a = ap length so_far in
+    let b = length-append (cells_in w old) (take (64 * w * c) cells) in
+    let more = ap length (chunk_more w c cells) in
+    let d = length-append (take (64 * w * c) cells) (chunk_of w c cells) in
+    let e = length-take (64 * w * (c + 1)) cells in
+    omega (arith, a, b, more, d, e, all, fits, ap length is, length-listed (length now) (cell_in w now), length-listed (length old) (cell_in w old))
+
+-- the cells of one chunk more
+pub chunk_added : (w c : ℕ) (old now new cells chunk : List ℕ) → cells_in w now ≡ cells_in w old ++ take (64 * w * c) cells → chunk ≡ chunk_of w c cells
+    → cells_in w new ≡ cells_in w now ++ chunk → cells_in w new ≡ cells_in w old ++ take (64 * w * (c + 1)) cells
+chunk_added w c old now new cells chunk so_far is more =
+    more ∙ (ap (λ (l : List ℕ). l ++ chunk) so_far
+    ∙ (append_assoc (cells_in w old) (take (64 * w * c) cells) chunk
+    ∙ (ap (λ (l : List ℕ). cells_in w old ++ (take (64 * w * c) cells ++ l)) is ∙ ap (λ (l : List ℕ). cells_in w old ++ l) (sym (chunk_more w c cells)))))
+
+-- no chunk yet, and all of them
+pub none_added : (w : ℕ) (old cells : List ℕ) → cells_in w old ≡ cells_in w old ++ take (64 * w * 0) cells
+none_added w old cells = let none : 64 * w * 0 ≡ 0 = omega arith in rw none (sym (append-nil (cells_in w old)))
+
+pub all_added : (w rows c : ℕ) (old new cells : List ℕ) → length cells ≡ rows * w → c ≡ chunks_of rows → cells_in w new ≡ cells_in w old ++ take (64 * w * c) cells
+    → cells_in w new ≡ cells_in w old ++ cells
+all_added w rows c old new cells all end so_far =
+    so_far ∙ ap (λ (l : List ℕ). cells_in w old ++ l) (ap (λ (n : ℕ). take (64 * w * n) cells) end ∙ all_chunks w rows cells all)
+
+-- how long the sums are, from how many cells they have
+pub sums_long : (w : ℕ) (old new cells : List ℕ) → cells_in w new ≡ cells_in w old ++ cells → length new ≡ length old + length cells
+sums_long w old new cells e =
+    omega (arith, ap length e, length-append (cells_in w old) cells, length-listed (length new) (cell_in w new), length-listed (length old) (cell_in w old))

@@ -40,7 +40,7 @@ pub(crate) fn exchange<W: Wire>(
     requires two_first { length two.now.first.items ≡ width_of keys.now.widths (column_of (sizes_for keys.now rows) 0) }
     requires two_second { length two.now.second.items ≡ width_of keys.now.widths (column_of (sizes_for keys.now rows) 0) }
     ensures { let s = sides_of keys.now zero.now one.now two.now in
-        (ms : List Message) × Went W.told W.alterations W.passes wire.old ms wire.new
+        (ms : List Message) × Went W.sight wire.old ms wire.new
         × IsTreePart s ms
         × IfOk result (λ pair. (length ms ≡ 9) × (pair.total ≡ tree_opened ms 0) × (pair.weighted ≡ tree_opened ms 1)) }
 {

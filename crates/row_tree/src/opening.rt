@@ -62,7 +62,7 @@ pub(crate) fn open_run<W: Wire>(
     requires one_second { length one.now.second.items ≡ width_of ready.now.plan.widths (column_of ready.now.plan 0) }
     requires two_first { length two.now.first.items ≡ width_of ready.now.plan.widths (column_of ready.now.plan 0) }
     requires two_second { length two.now.second.items ≡ width_of ready.now.plan.widths (column_of ready.now.plan 0) }
-    ensures { (ms : List Message) × Went W.told W.alterations W.passes wire.old ms wire.new
+    ensures { (ms : List Message) × Went W.sight wire.old ms wire.new
         × IsGroup Way.ToClient (by_server
             (sum_word (views_of ready.now.keys 0) run zero.now.first.items zero.now.second.items (tree_counter run) ∷ [])
             (sum_word (views_of ready.now.keys 1) run one.now.first.items one.now.second.items (tree_counter run) ∷ [])

@@ -92,7 +92,7 @@ pub fn tree_runs<W: Wire>(
     requires order { low ≤ high }
     requires there { high ≤ trees.old.zero.rows }
     ensures messages { let s = sides_over keys.now trees.old.zero trees.old.one trees.old.two low high in
-        (ms : List Message) × Went W.told W.alterations W.passes wire.old ms wire.new
+        (ms : List Message) × Went W.sight wire.old ms wire.new
         × IsTreePart s ms
         × IfOk result (λ pair. IsTreeTranscript s ms × (pair.total ≡ tree_opened ms 0) × (pair.weighted ≡ tree_opened ms 1)) }
     ensures visits { AreVisited (cover_of low high) trees.old trees.new result }

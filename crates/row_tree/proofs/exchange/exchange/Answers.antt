@@ -17,7 +17,7 @@ returns-in_err-total g c =
     let a = c.in_err-total.ensures in
     let first = group_words s (views_of c.in_ok-ready.ready.keys) h.0 a.0 0 h.3.seen a.2 in (
       h.0 ++ a.0,
-      went_both g.W.Wire.told g.W.Wire.alterations g.W.Wire.passes g.met.W.Wire.both_pass _ _ _ h.0 a.0 h.1 a.1,
+      went_both g.W.Wire.sight g.met.W.Wire.both_pass _ _ _ h.0 a.0 h.1 a.1,
       run_part s h.0 a.0 0 (omega arith) (omega (arith, h.3.full)) (keys_part s h.0 h.2) first,
       search rules,
     )
@@ -33,9 +33,9 @@ returns-in_err-weighted g c =
     let second = group_later s h.0 a.0 b.0 1 (omega (arith, h.3.full)) (group_words s views h.0 b.0 1 h.3.seen b.2) in
     let part = run_part s h.0 a.0 0 (omega arith) (omega (arith, h.3.full)) (keys_part s h.0 h.2) first in
     let six : length (h.0 ++ a.0) ≡ 3 + 3 * 1 = omega (arith, length-append h.0 a.0, h.3.full, a.3.full) in
-    let both = went_both g.W.Wire.told g.W.Wire.alterations g.W.Wire.passes g.met.W.Wire.both_pass _ _ _ h.0 a.0 h.1 a.1 in (
+    let both = went_both g.W.Wire.sight g.met.W.Wire.both_pass _ _ _ h.0 a.0 h.1 a.1 in (
       (h.0 ++ a.0) ++ b.0,
-      went_both g.W.Wire.told g.W.Wire.alterations g.W.Wire.passes g.met.W.Wire.both_pass _ _ _ (h.0 ++ a.0) b.0 both b.1,
+      went_both g.W.Wire.sight g.met.W.Wire.both_pass _ _ _ (h.0 ++ a.0) b.0 both b.1,
       run_part s (h.0 ++ a.0) b.0 1 (omega arith) six part second,
       search rules,
     )
@@ -51,10 +51,10 @@ returns g c =
     let second = group_later s h.0 a.0 b.0 1 (omega (arith, h.3.full)) (group_words s views h.0 b.0 1 h.3.seen b.2) in
     let part = run_part s h.0 a.0 0 (omega arith) (omega (arith, h.3.full)) (keys_part s h.0 h.2) first in
     let six : length (h.0 ++ a.0) ≡ 3 + 3 * 1 = omega (arith, length-append h.0 a.0, h.3.full, a.3.full) in
-    let both = went_both g.W.Wire.told g.W.Wire.alterations g.W.Wire.passes g.met.W.Wire.both_pass _ _ _ h.0 a.0 h.1 a.1 in
+    let both = went_both g.W.Wire.sight g.met.W.Wire.both_pass _ _ _ h.0 a.0 h.1 a.1 in
     let ms = (h.0 ++ a.0) ++ b.0 in (
       ms,
-      went_both g.W.Wire.told g.W.Wire.alterations g.W.Wire.passes g.met.W.Wire.both_pass _ _ _ (h.0 ++ a.0) b.0 both b.1,
+      went_both g.W.Wire.sight g.met.W.Wire.both_pass _ _ _ (h.0 ++ a.0) b.0 both b.1,
       run_part s (h.0 ++ a.0) b.0 1 (omega arith) six part second,
       (
         omega (arith, length-append (h.0 ++ a.0) b.0, six, b.3.full),

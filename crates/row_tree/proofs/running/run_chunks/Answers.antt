@@ -1,0 +1,13 @@
+use Rattle.std.proofs.Common.{arith, ◌≡◌, ◌∙◌, ◌+◌, ◌-◌, ◌≤◌}
+use Rattle.scan_chunks.specs.Pieces.{chunks_of}
+use Rattle.scan_chunks.proofs.Visits.{stopped, visited_more}
+use Rattle.row_tree.proofs.RunningSums.{all_added, chunk_added, chunk_fits, grown_both, none_added}
+use Rattle.row_tree.proofs.running.run_chunks.Goals as goal
+
+pub returns-in_err-lent-clause-part : goal.returns-in_err-lent-clause-part
+returns-in_err-lent-clause-part g c =
+    let i = c.loop-c.invariant in
+    let h = g.S.Shelf.held c.args.shelf.now in
+    let kept = rw c.in_err-lent.was at c.chunk.follows.holds-at-none.2 in
+    let below : c.loop-c.c ≤ chunks_of h.rows = omega (arith, c.loop-c-test.true, c.div_ceil-c-end.ensures, i.rows) in
+    stopped _ h c.args.column c.loop-c.c _ _ below (kept ∙ i.visits)
