@@ -44,7 +44,8 @@ const QUERY: Query = Query {
     ],
 };
 
-// A range of the places of so many rows, and how many nodes it has.
+// A range of the places of some rows, and how many nodes it has.
+#[derive(Clone, Copy)]
 struct Case {
     rows: u64,
     low: u64,
@@ -147,6 +148,6 @@ fn rows_of_two_shelves_follow_each_other(rt: HostRuntime) -> Result<(), Memory> 
         height: 2,
         index: 16,
     })?;
-    assert_eq!(rt; lent.first, [30, 29, 29, 28]);
+    assert_eq!(rt; lent.first, [30, 29, 29, 28].as_slice());
     Ok(())
 }
