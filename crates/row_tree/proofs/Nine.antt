@@ -13,7 +13,11 @@ use Rattle.server_rounds.specs.Groups.{IsGroup, by_server}
 use Rattle.server_rounds.specs.Rounds.{IsOpened, sum_word}
 use Rattle.query_plan.specs.Views.{View}
 use Rattle.server_rounds.proofs.Messages.{regroup, three_same}
-use Rattle.row_tree.specs.Rounds.{IsTreePart, Sides, tree_counter, tree_opened, word_in}
+use Rattle.query_plan.specs.KeyMessages.{Asked}
+use Rattle.row_tree.specs.declared.opening.Sums.{Sums}
+use Rattle.row_tree.specs.Column.{Tree}
+use Rattle.row_tree.specs.Sides.{AreSums, sides_of}
+use Rattle.row_tree.specs.Rounds.{IsTreePart, Sides, sides_over, tree_counter, tree_opened, word_in}
 
 -- the key messages, as far as they were carried
 pub keys_part : (s : Sides) (ms : List Message) → IsGroup ToServers s.keys ms → IsTreePart s ms
@@ -87,3 +91,8 @@ group_words s views ms ns run seen g =
 
 pub group_later : (s : Sides) (ms later ns : List Message) (run : ℕ) → 3 ≤ length ms → IsGroup ToClient (word_in s ms run) ns → IsGroup ToClient (word_in s (ms ++ later) run) ns
 group_later s ms later ns run h g = regroup ToClient (word_in s ms run) (word_in s (ms ++ later) run) ns g (λ k b. same_word s ms later run k (omega arith))
+
+-- what the messages rest on, by the sums that the servers made
+pub sides_same : (asked : Asked) (x y z : Sums) (t u v : Tree) (low high : ℕ) → AreSums t low high x → AreSums u low high y → AreSums v low high z
+    → sides_of asked x y z ≡ sides_over asked t u v low high
+sides_same asked x y z t u v low high a b c = rw (a.first, a.second, b.first, b.second, c.first, c.second) refl

@@ -7,7 +7,7 @@ use Rattle.list_facts.specs.Listed.{listed}
 use Rattle.list_facts.proofs.Listed.{length-listed, get_or-listed, listed_is, listed_same}
 use Rattle.ring128.specs.Ring.{plus, minus, times, dot_of, sums, sums3, total_of}
 use Rattle.ring128.specs.Laws.{IsThree}
-use Rattle.ring128.proofs.Laws.{dot_of-sums, dot_of_comm, sums-listed, listed_add_up, get_or-sums3}
+use Rattle.ring128.proofs.Laws.{inward, dot_of-sums, dot_of_comm, sums-listed, listed_add_up, get_or-sums3}
 use Rattle.prg_chacha.specs.Prg.{pad_of}
 use Rattle.scan_chunks.specs.Pieces.{row_of}
 use Rattle.wire_line.specs.declared.message.Message.{Message}
@@ -241,29 +241,31 @@ codes_are asked (row ∷ rows) there =
     ap (λ (l : List ℕ). l ++ flat_map (code_at asked.widths c) rows) one
     ∙ ap (λ (l : List ℕ). one_hot (width_of asked.widths c) (bucket_of asked.query row) ++ l) (codes_are asked rows there)
 
-shared_by : (zero one two : Tree) (whole : List ℕ) → AreShares (λ (k : ℕ). (by_server zero one two k).first) (λ (k : ℕ). (by_server zero one two k).second) whole
-    → AreShares (by_server zero.first one.first two.first) (by_server zero.second one.second two.second) whole
-shared_by zero one two whole s = record {
+shared_by : (t0 t1 t2 : Tree) (whole : List ℕ) → AreShares (λ (k : ℕ). (by_server t0 t1 t2 k).first) (λ (k : ℕ). (by_server t0 t1 t2 k).second) whole
+    → AreShares (by_server t0.first t1.first t2.first) (by_server t0.second t1.second t2.second) whole
+shared_by t0 t1 t2 whole s = record {
   next = λ k h. next k h;
   long = s.long;
   adds_up = s.adds_up;
 }
   where
-    next : (k : ℕ) → k < 3 → by_server zero.second one.second two.second k ≡ by_server zero.first one.first two.first ((k + 1) % 3)
-    next k h = three_same (by_server zero.second one.second two.second) (λ (k : ℕ). by_server zero.first one.first two.first ((k + 1) % 3))
+    next : (k : ℕ) → k < 3 → by_server t0.second t1.second t2.second k ≡ by_server t0.first t1.first t2.first ((k + 1) % 3)
+    next k h = three_same (by_server t0.second t1.second t2.second) (λ (k : ℕ). by_server t0.first t1.first t2.first ((k + 1) % 3))
         (s.next 0 (omega arith)) (s.next 1 (omega arith)) (s.next 2 (omega arith)) k h
 
-asks_sums : (asked : Asked) (rows : List Row) (zero one two : Tree) (low high : ℕ) → AsksTrees asked rows (by_server zero one two)
-    → AsksSums (sides_over asked zero one two low high) (width_of asked.widths (predicate_at asked.query 0).column) low high
-    (by_server zero.first one.first two.first) (by_server zero.second one.second two.second) asked.widths.bits asked.query (weights_of asked.seed) rows
-asks_sums asked rows zero one two low high asks = record {
+asks_sums : (asked : Asked) (rows : List Row) (t0 t1 t2 : Tree) (low high : ℕ) → AsksTrees asked rows (by_server t0 t1 t2)
+    → AsksSums (sides_over asked t0 t1 t2 low high) (width_of asked.widths (predicate_at asked.query 0).column) low high
+    (by_server t0.first t1.first t2.first) (by_server t0.second t1.second t2.second) asked.widths.bits asked.query (weights_of asked.seed) rows
+asks_sums asked rows t0 t1 t2 low high asks = record {
   one = asks.one;
   width = wide;
   keys = asks.keys;
-  shared = subst (AreShares (by_server zero.first one.first two.first) (by_server zero.second one.second two.second)) (codes_are asked rows there) shared;
+  shared = subst (AreShares (by_server t0.first t1.first t2.first) (by_server t0.second t1.second t2.second)) (codes_are asked rows there) shared;
   inside = λ i d h. rw wide ((asks.hold.held i d h).buckets c narrow);
-  firsts = three_same _ _ (at zero (asks.hold.width 0 (omega arith)) zero.first) (at one (asks.hold.width 1 (omega arith)) one.first) (at two (asks.hold.width 2 (omega arith)) two.first);
-  seconds = three_same _ _ (at zero (asks.hold.width 0 (omega arith)) zero.second) (at one (asks.hold.width 1 (omega arith)) one.second) (at two (asks.hold.width 2 (omega arith)) two.second);
+  firsts = three_same (sides_over asked t0 t1 t2 low high).first (λ (k : ℕ). range_sum (width_of asked.widths c) (by_server t0.first t1.first t2.first k) low high)
+      (at t0 (asks.hold.width 0 (omega arith)) t0.first) (at t1 (asks.hold.width 1 (omega arith)) t1.first) (at t2 (asks.hold.width 2 (omega arith)) t2.first);
+  seconds = three_same (sides_over asked t0 t1 t2 low high).second (λ (k : ℕ). range_sum (width_of asked.widths c) (by_server t0.second t1.second t2.second k) low high)
+      (at t0 (asks.hold.width 0 (omega arith)) t0.second) (at t1 (asks.hold.width 1 (omega arith)) t1.second) (at t2 (asks.hold.width 2 (omega arith)) t2.second);
 }
   where
     c : ℕ
@@ -278,21 +280,21 @@ asks_sums asked rows zero one two low high asks = record {
     wide : width_of asked.widths c ≡ 2 ^ get_or asked.widths.bits c 0
     wide = width_below asked.widths c there
 
-    shared : AreShares (by_server zero.first one.first two.first) (by_server zero.second one.second two.second) (flat_map (code_at asked.widths c) rows)
-    shared = shared_by zero one two (flat_map (code_at asked.widths c) rows) asks.hold.shared
+    shared : AreShares (by_server t0.first t1.first t2.first) (by_server t0.second t1.second t2.second) (flat_map (code_at asked.widths c) rows)
+    shared = shared_by t0 t1 t2 (flat_map (code_at asked.widths c) rows) asks.hold.shared
 
     at : (t : Tree) → t.width ≡ width_of asked.widths c → (cells : List ℕ) → range_sum t.width cells low high ≡ range_sum (width_of asked.widths c) cells low high
     at t e cells = ap (λ (w : ℕ). range_sum w cells low high) e
 
 pub trees_open : TreesOpen
-trees_open asked rows zero one two low high ms order there asks t honest =
+trees_open asked rows t0 t1 t2 low high ms order there asks t honest =
     let n = count_between asked.query rows low high in
-    let first = by_server zero.first one.first two.first in
-    let second = by_server zero.second one.second two.second in
+    let first = by_server t0.first t1.first t2.first in
+    let second = by_server t0.second t1.second t2.second in
     let w = width_of asked.widths (predicate_at asked.query 0).column in
-    let sums = asks_sums asked rows zero one two low high asks in
-    let run = λ (r : ℕ) (h : r < 2). run_opens (sides_over asked zero one two low high) w low high first second asked.widths.bits asked.query (weights_of asked.seed) rows ms r
-        h order there sums t honest in
+    let over = asks_sums asked rows t0 t1 t2 low high asks in
+    let run = λ (r : ℕ) (h : r < 2). run_opens (sides_over asked t0 t1 t2 low high) w low high first second asked.widths.bits asked.query (weights_of asked.seed) rows ms r
+        h order there over t honest in
     let answer : word_of (plain asked.query (rows_between rows low high)) ≡ n % 2 ^ 128 =
         ap (λ (a : Aggregate). word_of (answer_of a (filter (passes asked.query) (rows_between rows low high)))) asks.count in
     let key = key_from (weights_of asked.seed 1) 1 in

@@ -1,12 +1,12 @@
 -- The sums of the rows of several nodes.
-use Rattle.std.proofs.Common.{◌≡◌, ℕ, zero, suc, ◌+◌, ◌*◌, ◌-◌, ◌^◌, ◌<◌, ◌≤◌, ltb, true, false, List, [], ◌∷◌, ◌++◌, length, get_or, map, take, refl, sym, ap, ⊎_elim, ◌∙◌, arith, append-nil, append_assoc, All, Result, Ok, Err}
+use Rattle.std.proofs.Common.{◌≡◌, ℕ, zero, suc, ◌+◌, ◌*◌, ◌-◌, ◌^◌, ◌<◌, ◌≤◌, ltb, true, false, List, [], ◌∷◌, ◌++◌, length, get_or, map, replicate, subst, take, refl, sym, ap, ⊎_elim, ◌∙◌, arith, append-nil, append_assoc, All, Result, Ok, Err}
 use Rattle.std.specs.Result.{IsErr}
 use Rattle.ring128.specs.declared.memory.Memory.{Memory}
 use Rattle.std.specs.List.{flat_map}
-use Rattle.std.proofs.lemmas.List.{take_all, take_more}
+use Rattle.std.proofs.lemmas.List.{get_or-replicate, length-replicate, take_all, take_more}
 use Rattle.std.proofs.lemmas.Bool.{cases_Bool, ltb-true}
 use Rattle.list_facts.specs.Listed.{listed}
-use Rattle.list_facts.proofs.Listed.{listed_same}
+use Rattle.list_facts.proofs.Listed.{listed_is, listed_same}
 use Rattle.ring128.specs.Ring.{plus, sums, total_of}
 use Rattle.ring128.proofs.Laws.{sums-listed, total_of-append}
 use Rattle.row_tree.specs.declared.node.Node.{Node}
@@ -94,3 +94,17 @@ visited_begun nodes old new (Err m) v = v
 -- whatever came of it, what was visited by then stays
 pub visited_fails : {T U : Type 0} (nodes : List Node) (old new : Tree) (r : Result T Memory) (q : Result U Memory) → IsErr q → IsVisited nodes old new r → IsVisited nodes old new q
 visited_fails nodes old new r q e v = visited_stopped nodes old new q e (visited_begun nodes old new r v)
+
+-- all nodes were visited, and then memory was lacking
+pub visited_done : {T : Type 0} (nodes : List Node) (old new : Tree) (r : Result T Memory) → IsErr r → new ≡ record old { visits = old.visits ++ nodes } → IsVisited nodes old new r
+visited_done nodes old new r e v =
+    visited_stopped nodes old new r e (length nodes, v ∙ ap (λ (l : List Node). record old { visits = old.visits ++ l }) (sym (take_all (length nodes) nodes (omega arith))))
+
+-- no row is summed up yet
+pub zero_sum : (w : ℕ) (cells items : List ℕ) → items ≡ replicate w 0 → items ≡ sum_rows w cells []
+zero_sum w cells items e =
+    listed_is w (sum_at w cells []) 0 items (ap length e ∙ length-replicate w 0) (λ b k. ap (λ (l : List ℕ). get_or l b 0) e ∙ get_or-replicate w b 0 0 k)
+
+-- the nodes of a range are there
+pub range_there : (low high rows : ℕ) (nodes : List Node) → nodes ≡ cover_of low high → high ≤ rows → All (IsThere rows) nodes
+range_there low high rows nodes e h = subst (All (IsThere rows)) (sym e) (cover_there (high - low) low high rows h)

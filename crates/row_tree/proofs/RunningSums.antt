@@ -1,5 +1,6 @@
 -- Running sums, and the sums of rows from them.
-use Rattle.std.proofs.Common.{◌≡◌, ℕ, zero, suc, ◌+◌, ◌*◌, ◌-◌, ◌%◌, ◌^◌, ◌<◌, ◌≤◌, Bool, true, false, cond, ltb, List, [], ◌∷◌, ◌++◌, length, get_or, map, refl, sym, ap, subst, ⊎_elim, ◌∙◌, arith, length-append, append-nil, append_assoc, take, Result, Ok, Err, OnErr}
+use Rattle.std.proofs.Common.{◌≡◌, ℕ, zero, suc, ◌+◌, ◌*◌, ◌-◌, ◌%◌, ◌^◌, ◌<◌, ◌≤◌, Bool, true, false, cond, ltb, List, [], ◌∷◌, ◌++◌, length, get_or, map, refl, sym, ap, subst, ⊎_elim, ◌∙◌, arith, length-append, append-nil, append_assoc, take, Result, Ok, Err, OnErr, OnOk}
+use Rattle.std.specs.Result.{is_ok}
 use Rattle.std.specs.List.{range_with_len}
 use Rattle.std.proofs.lemmas.List.{get_or_append_left}
 use Rattle.std.proofs.Math.Seq.{get_or-append_seam, take-append_seam}
@@ -169,3 +170,9 @@ all_added w rows c old new cells all end so_far =
 pub sums_long : (w : ℕ) (old new cells : List ℕ) → cells_in w new ≡ cells_in w old ++ cells → length new ≡ length old + length cells
 sums_long w old new cells e =
     omega (arith, ap length e, length-append (cells_in w old) cells, length-listed (length new) (cell_in w new), length-listed (length old) (cell_in w old))
+
+-- how long the sums are where rows were appended
+pub long_after : {T E : Type 0} (r : Result T E) (w : ℕ) (old new cells : List ℕ) → is_ok r ≡ true → OnOk r (cells_in w new ≡ cells_in w old ++ cells)
+    → length new ≡ length old + length cells
+long_after (Ok x) w old new cells yes e = sums_long w old new cells e
+long_after (Err m) w old new cells yes e = absurd cc
