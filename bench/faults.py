@@ -8,8 +8,14 @@ import trials
 
 READ_FAULT = b"waldo: read fault\n"
 INPUT = b"host,value\n3,10\n1,20\n3,5\n"
+
+
+def rows(count):
+    return b"host,value\n" + b"".join(b"%d,%d\n" % (i % 4, i) for i in range(count))
+
+
 ZEROS = b"host,value\n" + b"0,0\n" * 130
-LONG = b"host,value\n" + b"".join(b"%d,%d\n" % (i % 4, i) for i in range(3000))  # three reads and the one that finds the end
+SHORT = 1000  # bytes of an input of which each is read by itself
 # Quoted fields, each end of a record, empty lines, and a byte order mark.
 ODD = b'\xef\xbb\xbf"host",value\n3,10\r\n"1",20\r\r\n\n"2","0""5\n'
 STEPS = "d0 p0.0 p0.1 d1 p1.0 p1.1 p1.2 f1 f1 f1 p0.2 f1 f1 f1 a1.0"
@@ -20,16 +26,18 @@ def command(name, *words):
     return [word.encode() for word in (name, "host:2", *words)]
 
 
-# Name, words and input. Runs whose command the program hasn't yet are skipped.
+# Name, words and input. Runs whose command the program hasn't yet are skipped. The input of 3,000 rows takes three reads and one that
+# finds the end; there is no more to learn of it without memory.
+LONG = "ask over 3,000 rows"
 RUNS = [
     ("ask", command("ask", *QUERY), INPUT),
-    ("ask by 4 workers", command("ask", "--query", "sum host=0..2", *QUERY, "--workers", "4"), ZEROS),
-    ("ask over 3,000 rows", command("ask", "--query", "sum host<=2"), LONG),
+    ("ask by 4 workers", command("ask", "--query", "sum host=0..2", *QUERY, "--workers", "4"), rows(70)),
+    (LONG, command("ask", "--query", "sum host<=2"), rows(3000)),
     ("replay", command("replay", *QUERY, "--schedule", STEPS), INPUT),
     ("make", command("make", "--number", "7", "--rows", "130", "--query", "sum host=3"), b""),
     ("make by 4 workers", command("make", "--number", "7", "--rows", "130", "--query", "sum host=3", "--workers", "4"), b""),
     ("race", command("race", *QUERY, "--writers", "1", "--askers", "1"), INPUT),
-    ("race of 3 and 2", command("race", *QUERY, "--query", "sum host<=2", "--writers", "3", "--askers", "2", "--rounds", "2"), ZEROS),
+    ("race of 3 and 2", command("race", *QUERY, "--query", "sum host<=2", "--writers", "3", "--askers", "2", "--rounds", "2"), rows(12)),
     ("trace", command("trace", "--query", "sum host=0..1"), ZEROS),
     ("tamper", command("tamper", *QUERY, "--shift", "6:0:1"), INPUT),
     ("a refused word", command("ask", "--query", "count host=4"), INPUT),
@@ -127,8 +135,9 @@ def memory_faults(program, name, run, own):
 
 
 def read_faults(program, name, run, own):
+    by_byte = (0, 0) if len(run[1]) > SHORT else in_turn(program, name, run, own, "read one 1 0,read", "fail", alone, read_fault(own))
     counts = [in_turn(program, name, run, own, "read", "fail", alone, read_fault(own))[0],
-              in_turn(program, name, run, own, "read one 1 0,read", "fail", alone, read_fault(own))[0],
+              by_byte[0],
               in_turn(program, name, run, own, "read", "one", alone, just_own(own))[0],
               in_turn(program, name, run, own, "read", "one", to_the_end, just_own(own))[0],
               in_turn(program, name, run, own, "read", "stop", alone, read_fault(own, interrupted=True))[0]]
@@ -228,7 +237,8 @@ def attack(program, parts):
         status, text, _ = program.start(words, data=data)
         program.check(f"{name}, left alone", own.fault(status, text))
         for part in parts:
-            if part in PARTS and not (part == "writes" and own.texts() is None):
+            left_out = part == "writes" and own.texts() is None or part == "memory" and name == LONG
+            if part in PARTS and not left_out:
                 PARTS[part](program, name, (words, data), own)
     if "inputs" in parts:
         cut_inputs(program)

@@ -197,13 +197,16 @@ def smallest(program, words, data):
     return words, data
 
 
-def show(program, seed, number, words, data):
-    words, data = smallest(program, words, data)
+def show(program, seed, number, words, data, fault):
+    """Prints a case that differs and keeps its input; where it differs again, as a race may not, it is made smaller before."""
+    trials.tell(f"  FAILED case {number} of seed {seed}: {fault}")
+    if fault_of(program, words, data):
+        words, data = smallest(program, words, data)
+        fault = fault_of(program, words, data)
     with tempfile.NamedTemporaryFile("wb", prefix="waldo-random-", suffix=".csv", delete=False) as kept:
         kept.write(data)
     shown = shlex.join(word.decode(errors="surrogateescape") for word in words).encode(errors="surrogateescape")
-    trials.tell(f"  FAILED case {number} of seed {seed}, made small: {shown!r} over {kept.name}, {data[:200]!r}: "
-                f"{fault_of(program, words, data)}")
+    trials.tell(f"    {shown!r} over {kept.name}, {data[:200]!r}: {fault}")
 
 
 def kind_of(words, status):
@@ -224,7 +227,7 @@ def main(file, seed, seconds, first, cases):
         if fault:
             program.failed += 1
             if program.failed <= 10:
-                show(program, seed, number, words, data)
+                show(program, seed, number, words, data, fault)
         number += 1
     for kind, count in sorted(counted.items()):
         trials.tell(f"{count:9} {kind}")

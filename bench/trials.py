@@ -6,7 +6,7 @@ import subprocess
 import sys
 import tempfile
 
-SECONDS = 20
+SECONDS = 120
 MEMORY = 4 << 30  # at most, for a run and for the script itself
 MOST_PRINTED = 40
 

@@ -26,6 +26,7 @@ done <<'LINES'
 ./waldo s|schema
 ./waldo rep|replay
 ./waldo r|race,replay
+./waldo t|trace
 ./waldo help r|race,replay,rows
 ./waldo x|
 ./waldo help mak|make
@@ -51,6 +52,9 @@ done <<'LINES'
 ./waldo race host:2 --writers 2 --rounds=3 --|--askers,--capacity,--query,--seed,--workers
 ./waldo race host:2 --capacity |
 ./waldo race host:2,load:4@0/10 --query "sum l|sum load<=,sum load=
+./waldo trace host:2 |--capacity,--query,--seed,--workers
+./waldo trace host:2 --workers=2 --|--capacity,--query,--seed
+./waldo trace host:2,load:4@0/10 --query "sum l|sum load<=,sum load=
 ./waldo ask host:2 --wr|
 ./waldo ask host:2 --writers |
 ./waldo make host:2 --|--number,--query,--rows,--seed,--workers

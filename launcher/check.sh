@@ -83,7 +83,7 @@ call() {
 
 check_writes() {
   local command text
-  for command in ask replay race make; do
+  for command in ask replay race make trace; do
     for text in 0:4 2:2 3:3 5:5 6:6 7:7; do
       STATUS=${text%:*} "$tree/waldo" $command host:2 >/dev/full 2>/dev/null </dev/null
       is "a full disk, $command, status ${text%:*}" "${text#*:}" $?
@@ -399,18 +399,16 @@ check_no_build() {
   local words
   rm -rf -- "$tree/built" "$room/proved"
   for words in help -h --help --version "help commands" "help schemas" "help queries" "help rows" "help schedules" "help messages" \
-    "help schema" "ask --help" "replay -h" "race --help" "race help" "make help" "help ask" "help race"; do
+    "help schema" "ask --help" "replay -h" "race --help" "race help" "make help" "help ask" "help race" "help trace"; do
     call $words
     is "$words has text, status 0 and no line" "0::yes" "$status:$err:$([ ${#out} -gt 40 ] && echo yes)"
   done
   call help race
   has "help on race has its options" "--writers N" "$out"
   is "and is what race --help says" "$("$tree/waldo" race --help)" "${out%$'\n'}"
-  for words in trace tamper; do
-    call $words host:2
-    is "$words, which is not built, is an unknown command" "waldo: bad word 0:2" "${out%$'\n'}:$status"
-    has "and is told so" "word 0 is '$words', which is no command" "$err"
-  done
+  call tamper host:2
+  is "tamper, which is not built, is an unknown command" "waldo: bad word 0:2" "${out%$'\n'}:$status"
+  has "and is told so" "word 0 is 'tamper', which is no command" "$err"
   call frobnicate host:2
   is "an unknown command" "waldo: bad word 0:2" "${out%$'\n'}:$status"
   call

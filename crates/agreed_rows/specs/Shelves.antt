@@ -37,4 +37,5 @@ pub record HoldEntries {S : Type 0} (held : S → Held) (e : Entries) (shelves :
   pub one : AreShelves e.widths (length e.all) (map held shelves.one.items)
   pub two : AreShelves e.widths (length e.all) (map held shelves.two.items)
   pub pieces : let at = λ (list : List S). pieces_of (map held list) in
-      SamePieces e.widths.columns (by_server (at shelves.zero.items) (at shelves.one.items) (at shelves.two.items)) (pieces_over e.widths e.all)
+      SamePieces e.widths.columns (by_server (at shelves.zero.items) (at shelves.one.items) (at shelves.two.items))
+      (pieces_over e.widths e.all)

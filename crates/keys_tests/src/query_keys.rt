@@ -107,7 +107,7 @@ fn each_kind(rt: HostRuntime) -> Result<(), Fail> {
     Ok(())
 }
 
-// An interval from 0, whose lower key has weight 0, and "at most" a number that isn't the last.
+// An interval from 0, whose lower key has weight 0, and "at most" a number that is not the last.
 #[test]
 fn from_nothing(rt: HostRuntime) -> Result<(), Fail> {
     let alloc = rt.alloc();

@@ -18,7 +18,7 @@ mod weights;
 pub use group::{GroupFault, GroupQuery, read_group};
 pub use key::{KeyPair, PredicateKey};
 pub use keys::{Keys, make_keys};
-pub use message::{MessageFault, read_message};
+pub use message::{MessageFault, message_length, read_message};
 pub use query::{Predicate, Query, QueryFault, QueryWhy, shape_of};
 pub use read::read_query;
 pub use server_keys::ServerKeys;

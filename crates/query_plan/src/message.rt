@@ -62,6 +62,15 @@ pub fn read_message(
     Ok(ServerKeys::new(own, next, run0, run1))
 }
 
+/// How many words the key message to each server has, for a query of this shape over columns of these widths.
+pub fn message_length(shape: &Shape, widths: &Widths) -> u64
+    requires few { shape.now.count ≤ 4 }
+    requires there { (j : ℕ) → j < shape.now.count → (part_at shape.now j).column < widths.now.columns }
+    ensures { result ≡ message_length shape.now widths.now.bits }
+{
+    4 + 2 * run_length(widths, &shape.parts[..shape.count as usize]) as u64
+}
+
 // How many words the keys of a part have.
 fn part_length(widths: &Widths, part: &Part) -> usize
     requires { HasColumn widths.now.columns part.now }

@@ -24,7 +24,7 @@ use Rattle.list_facts.proofs.Prefixes.{prefix_length}
 use Rattle.waldo_table.proofs.Legal.{prefix_rises}
 use Rattle.waldo_table.specs.Asks.{rows_of}
 use Rattle.waldo_table.specs.Tables.{Agrees, Grows, IsCovered, PassView}
-use Rattle.race_play.specs.Questions.{AreAnswers, Gave, IsAnswer, Question, Told, at_end, ends_of, first, in_round, messages_of, question_of, rounds_of}
+use Rattle.race_play.specs.Questions.{AreAnswers, Gave, IsAnswer, Question, Opening, at_end, ends_of, first, in_round, messages_of, question_of, rounds_of}
 use Rattle.race_play.specs.Raced.{HasFirst}
 use Rattle.race_play.specs.Rounds.{Asks}
 use Rattle.wire_line.specs.Sights.{Sight, NonePasses, BothPass}
@@ -38,7 +38,7 @@ first_more : (w : Widths) (order more : List (Row × Seed)) (n : ℕ) → IsPref
 unfolding entries
 first_more w order more n p le = ap (entries w) (ap (take n) (sym p.1) ∙ take-append-le n order p.0 le)
 
-pub answer_more : (w : Widths) (order more : List (Row × Seed)) (x : Question) (t : Told) (line : Line) → IsPrefix order more → IsAnswer w order x t line → IsAnswer w more x t line
+pub answer_more : (w : Widths) (order more : List (Row × Seed)) (x : Question) (t : Opening) (line : Line) → IsPrefix order more → IsAnswer w order x t line → IsAnswer w more x t line
 answer_more w order more x t line p a =
     let same : first w more t.rows ≡ first w order t.rows = first_more w order more t.rows p a.most in record {
       most = let l = prefix_length order more p in let m = a.most in omega arith;
@@ -48,34 +48,34 @@ answer_more w order more x t line p a =
     }
 
 module _ (w : Widths) (order more : List (Row × Seed)) (p : IsPrefix order more) where
-  pub answers_more : (low : ℕ) (xs : List Question) (told : List Told) (said : List Line) (high : ℕ) → AreAnswers w order low xs told said high → AreAnswers w more low xs told said high
+  pub answers_more : (low : ℕ) (xs : List Question) (openings : List Opening) (said : List Line) (high : ℕ) → AreAnswers w order low xs openings said high → AreAnswers w more low xs openings said high
   answers_more low [] [] [] high h = h
   answers_more low [] [] (line ∷ said) high h = absurd h
-  answers_more low [] (t ∷ told) said high h = absurd h
+  answers_more low [] (t ∷ openings) said high h = absurd h
   answers_more low (x ∷ xs) [] said high h = absurd h
-  answers_more low (x ∷ xs) (t ∷ told) [] high h = absurd h
-  answers_more low (x ∷ xs) (t ∷ told) (line ∷ said) high h = (h.0, answer_more w order more x t line p h.1, answers_more t.rows xs told said high h.2)
+  answers_more low (x ∷ xs) (t ∷ openings) [] high h = absurd h
+  answers_more low (x ∷ xs) (t ∷ openings) (line ∷ said) high h = (h.0, answer_more w order more x t line p h.1, answers_more t.rows xs openings said high h.2)
 
-module _ (w : Widths) (order : List (Row × Seed)) (x : Question) (t : Told) (line : Line) (a : IsAnswer w order x t line) where
-  pub answers_snoc : (low : ℕ) (xs : List Question) (told : List Told) (said : List Line) (high : ℕ) → AreAnswers w order low xs told said high → high ≤ t.rows
-      → AreAnswers w order low (xs ++ x ∷ []) (told ++ t ∷ []) (said ++ line ∷ []) t.rows
+module _ (w : Widths) (order : List (Row × Seed)) (x : Question) (t : Opening) (line : Line) (a : IsAnswer w order x t line) where
+  pub answers_snoc : (low : ℕ) (xs : List Question) (openings : List Opening) (said : List Line) (high : ℕ) → AreAnswers w order low xs openings said high → high ≤ t.rows
+      → AreAnswers w order low (xs ++ x ∷ []) (openings ++ t ∷ []) (said ++ line ∷ []) t.rows
   answers_snoc low [] [] [] high h le = (let l : low ≤ high = h in omega arith, a, omega arith)
   answers_snoc low [] [] (l ∷ said) high h le = absurd h
-  answers_snoc low [] (u ∷ told) said high h le = absurd h
+  answers_snoc low [] (u ∷ openings) said high h le = absurd h
   answers_snoc low (y ∷ xs) [] said high h le = absurd h
-  answers_snoc low (y ∷ xs) (u ∷ told) [] high h le = absurd h
-  answers_snoc low (y ∷ xs) (u ∷ told) (l ∷ said) high h le = (h.0, h.1, answers_snoc u.rows xs told said high h.2 le)
+  answers_snoc low (y ∷ xs) (u ∷ openings) [] high h le = absurd h
+  answers_snoc low (y ∷ xs) (u ∷ openings) (l ∷ said) high h le = (h.0, h.1, answers_snoc u.rows xs openings said high h.2 le)
 
-messages_snoc : (told : List Told) (t : Told) → messages_of (told ++ t ∷ []) ≡ messages_of told ++ t.messages
+messages_snoc : (openings : List Opening) (t : Opening) → messages_of (openings ++ t ∷ []) ≡ messages_of openings ++ t.messages
 messages_snoc [] t = append-nil t.messages
-messages_snoc (u ∷ told) t = ap (λ (ms : List Message). u.messages ++ ms) (messages_snoc told t) ∙ sym (append_assoc u.messages (messages_of told) t.messages)
+messages_snoc (u ∷ openings) t = ap (λ (ms : List Message). u.messages ++ ms) (messages_snoc openings t) ∙ sym (append_assoc u.messages (messages_of openings) t.messages)
 
 -- ---- one question more
 
 -- what was answered so far through a pass and over a wire; whatever three servers agree on from here is no less than `high`
 pub record SoFar {S : Type 0} (sight : Sight S)
     (w : Widths) (low : ℕ) (p : PassView) (xs : List Question) (said : List Line) (before now : S) : Type 0 where
-  pub all : List Told
+  pub all : List Opening
   pub high : ℕ
   pub answers : AreAnswers w p.sight.order low xs all said high
   pub went : Went sight before (messages_of all) now
@@ -111,7 +111,7 @@ module _ {S : Type 0} (sight : Sight S) (none : NonePasses sight) (both : BothPa
       → SoFar sight w low q (xs ++ record { by = who; query = query; seed = seed } ∷ []) more s u
   so_far_more p q xs said more s t u who query seed ms pair line h grows asks went is =
       let x : Question = record { by = who; query = query; seed = seed } in
-      let now : Told = record { rows = q.floor; messages = ms; pair = pair } in record {
+      let now : Opening = record { rows = q.floor; messages = ms; pair = pair } in record {
         all = h.all ++ now ∷ [];
         high = q.floor;
         answers = subst (λ (ls : List Line). AreAnswers w q.sight.order low (xs ++ x ∷ []) (h.all ++ now ∷ []) ls q.floor) (sym is)
@@ -124,7 +124,7 @@ module _ {S : Type 0} (sight : Sight S) (none : NonePasses sight) (both : BothPa
   pub so_far_done : (p : PassView) (xs ys : List Question) (said : List Line) (s t : S) → SoFar sight w low p xs said s t → xs ≡ ys
       → (ms : List Message) × Went sight s ms t × Gave w p.sight.order low ys ms said
   so_far_done p xs ys said s t h is =
-      (messages_of h.all, h.went, record { told = h.all; high = h.high; answers = subst (λ (zs : List Question). AreAnswers w p.sight.order low zs h.all said h.high) is h.answers; messages = refl })
+      (messages_of h.all, h.went, record { openings = h.all; high = h.high; answers = subst (λ (zs : List Question). AreAnswers w p.sight.order low zs h.all said h.high) is h.answers; messages = refl })
 
 -- ---- the questions of the next round, and of the next query
 

@@ -23,7 +23,7 @@ use Rattle.wire_line.specs.Sights.{Sight}
 -- ---- what was asked stays so as the order grows
 
 pub gave_more : (w : Widths) (order more : List (Row × Seed)) (low : ℕ) (xs : List Question) (ms : List Message) (said : List Line) → IsPrefix order more → Gave w order low xs ms said → Gave w more low xs ms said
-gave_more w order more low xs ms said p g = record { told = g.told; high = g.high; answers = answers_more w order more p low xs g.told said g.high g.answers; messages = g.messages }
+gave_more w order more low xs ms said p g = record { openings = g.openings; high = g.high; answers = answers_more w order more p low xs g.openings said g.high g.answers; messages = g.messages }
 
 module _ (w : Widths) (queries : List Query) (master : Seed) (rounds : ℕ) (order more : List (Row × Seed)) (p : IsPrefix order more) where
   pub asked_more : (asker : ℕ) (sent : List (List Message)) (said : List Line) → AreAsked w queries master rounds order asker sent said → AreAsked w queries master rounds more asker sent said

@@ -19,7 +19,7 @@ use Rattle.wire_line.specs.declared.message.Message.{Message}
 use Rattle.waldo_table.specs.Tables.{Grows, PassView}
 use Rattle.race_play.specs.Askers.{AreAsked, WentEach, more_over_first}
 use Rattle.race_play.specs.Printed.{IsBackLine}
-use Rattle.race_play.specs.Questions.{AreAnswers, Gave, Question, Told, ends_of, messages_of}
+use Rattle.race_play.specs.Questions.{AreAnswers, Gave, Question, Opening, ends_of, messages_of}
 use Rattle.race_play.specs.Raced.{IsRaced}
 use Rattle.race_play.specs.Reports.{Reports, is_altered, place_lines}
 use Rattle.race_play.specs.Settings.{Setting}
@@ -148,18 +148,18 @@ backs_quiet n writers order from (line ∷ said) each =
     ∙ backs_quiet n writers order (suc from) said (λ w l at. let z : from + suc w ≡ suc from + w = omega arith in subst (λ (k : ℕ). IsBackLine n writers order k l) z (each (suc w) l at))
 
 module _ (w : Widths) (order : List (Row × Seed)) where
-  answers_quiet : (low : ℕ) (xs : List Question) (told : List Told) (said : List Line) (high : ℕ) → AreAnswers w order low xs told said high → IsHonest (messages_of told) → list_any is_altered said ≡ false
+  answers_quiet : (low : ℕ) (xs : List Question) (openings : List Opening) (said : List Line) (high : ℕ) → AreAnswers w order low xs openings said high → IsHonest (messages_of openings) → list_any is_altered said ≡ false
   answers_quiet low [] [] [] high h honest = refl
   answers_quiet low [] [] (line ∷ said) high h honest = absurd h
-  answers_quiet low [] (t ∷ told) said high h honest = absurd h
+  answers_quiet low [] (t ∷ openings) said high h honest = absurd h
   answers_quiet low (x ∷ xs) [] said high h honest = absurd h
-  answers_quiet low (x ∷ xs) (t ∷ told) [] high h honest = absurd h
-  answers_quiet low (x ∷ xs) (t ∷ told) (line ∷ said) high h honest =
-      ap (λ (l : Line). is_altered l || list_any is_altered said) (h.1.honest (first_honest t.messages (messages_of told) honest))
-      ∙ answers_quiet t.rows xs told said high h.2 (second_honest t.messages (messages_of told) honest)
+  answers_quiet low (x ∷ xs) (t ∷ openings) [] high h honest = absurd h
+  answers_quiet low (x ∷ xs) (t ∷ openings) (line ∷ said) high h honest =
+      ap (λ (l : Line). is_altered l || list_any is_altered said) (h.1.honest (first_honest t.messages (messages_of openings) honest))
+      ∙ answers_quiet t.rows xs openings said high h.2 (second_honest t.messages (messages_of openings) honest)
 
   gave_quiet : (low : ℕ) (xs : List Question) (ms : List Message) (said : List Line) → Gave w order low xs ms said → IsHonest ms → list_any is_altered said ≡ false
-  gave_quiet low xs ms said g honest = answers_quiet low xs g.told said g.high g.answers (subst (λ (ns : List Message). IsHonest ns) g.messages honest)
+  gave_quiet low xs ms said g honest = answers_quiet low xs g.openings said g.high g.answers (subst (λ (ns : List Message). IsHonest ns) g.messages honest)
 
   asked_quiet : (queries : List Query) (master : Seed) (rounds asker : ℕ) (sent : List (List Message)) (said : List Line) → AreAsked w queries master rounds order asker sent said → AllHonest sent → list_any is_altered said ≡ false
   asked_quiet queries master rounds asker [] said h honest = ap (list_any is_altered) h

@@ -47,7 +47,7 @@ ends_of queries master zero = []
 ends_of queries master (suc q) = ends_of queries master q ++ question_of (slice_get queries q) (at_end master q)
 
 -- what was answered to a question: over how many rows, the messages that were carried, and the pair that they opened
-pub record Told : Type 0 where
+pub record Opening : Type 0 where
   pub rows : ℕ
   pub messages : List Message
   pub pair : OpenedPair
@@ -58,7 +58,7 @@ first w order n = record { widths = w; all = take n order }
 
 -- An answer over the first rows of an order: the messages are those of the query over these rows, and open the pair; the line is what the
 -- check says of the pair; and where each message was received as it was sent, it is the plain answer.
-pub record IsAnswer (w : Widths) (order : List (Row × Seed)) (x : Question) (t : Told) (line : Line) : Type 0 where
+pub record IsAnswer (w : Widths) (order : List (Row × Seed)) (x : Question) (t : Opening) (line : Line) : Type 0 where
   pub most : t.rows ≤ length order
   pub opens : Opens (first w order t.rows) x.query x.seed t.messages t.pair
   pub says : line ≡ answer_line x.by t.rows x.query.aggregate (judged x.query x.seed t.pair)
@@ -66,24 +66,24 @@ pub record IsAnswer (w : Widths) (order : List (Row × Seed)) (x : Question) (t 
 
 -- questions were answered one after another, the first over at least `low` rows, the last over at most `high`, and none over fewer than the
 -- one before
-abbrev pub AreAnswers : Widths → List (Row × Seed) → ℕ → List Question → List Told → List Line → ℕ → Type 0
+abbrev pub AreAnswers : Widths → List (Row × Seed) → ℕ → List Question → List Opening → List Line → ℕ → Type 0
 AreAnswers w order low [] [] [] high = low ≤ high
 AreAnswers w order low [] [] (line ∷ said) high = ⊥
-AreAnswers w order low [] (t ∷ told) said high = ⊥
+AreAnswers w order low [] (t ∷ openings) said high = ⊥
 AreAnswers w order low (x ∷ xs) [] said high = ⊥
-AreAnswers w order low (x ∷ xs) (t ∷ told) [] high = ⊥
-AreAnswers w order low (x ∷ xs) (t ∷ told) (line ∷ said) high =
-    (low ≤ t.rows) × IsAnswer w order x t line × AreAnswers w order t.rows xs told said high
+AreAnswers w order low (x ∷ xs) (t ∷ openings) [] high = ⊥
+AreAnswers w order low (x ∷ xs) (t ∷ openings) (line ∷ said) high =
+    (low ≤ t.rows) × IsAnswer w order x t line × AreAnswers w order t.rows xs openings said high
 
 -- all messages, in order
-abbrev pub messages_of : List Told → List Message
+abbrev pub messages_of : List Opening → List Message
 messages_of [] = []
-messages_of (t ∷ told) = t.messages ++ messages_of told
+messages_of (t ∷ openings) = t.messages ++ messages_of openings
 
 -- the questions were answered by these messages and with these lines, each over at least `low` rows
 pub record Gave (w : Widths) (order : List (Row × Seed)) (low : ℕ) (xs : List Question) (ms : List Message)
     (said : List Line) : Type 0 where
-  pub told : List Told
+  pub openings : List Opening
   pub high : ℕ
-  pub answers : AreAnswers w order low xs told said high
-  pub messages : ms ≡ messages_of told
+  pub answers : AreAnswers w order low xs openings said high
+  pub messages : ms ≡ messages_of openings

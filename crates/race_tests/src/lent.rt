@@ -63,10 +63,13 @@ fn ask<R: Abort + Threads + Wait + Sync>(
 }
 
 // The places of the rows, and the text of the two lines.
-type Told = (Places, Vec<u8>);
+type Printed = (Places, Vec<u8>);
 
 // Writes through the first pass of a table for three rows, and asks through one that was split off without room.
-fn write_and_ask<R: Abort + Threads + Wait + Sync>(rt: &R, alloc: Global) -> Result<Told, Memory> {
+fn write_and_ask<R: Abort + Threads + Wait + Sync>(
+    rt: &R,
+    alloc: Global,
+) -> Result<Printed, Memory> {
     let Ok((table, mut pass)) = Table::new(alloc, WIDTHS, 3) else {
         return Err(Memory);
     };
@@ -82,8 +85,8 @@ fn write_and_ask<R: Abort + Threads + Wait + Sync>(rt: &R, alloc: Global) -> Res
 // The asker's pass has seen nothing of the three rows before it asks; two of them have bucket 3.
 #[test]
 fn a_writer_and_an_asker(rt: HostRuntime) -> Result<(), Memory> {
-    let (places, told) = write_and_ask(&rt, rt.alloc())?;
+    let (places, lines) = write_and_ask(&rt, rt.alloc())?;
     assert!(rt; places.as_slice() == [0, 1, 2].as_slice());
-    assert!(rt; told.as_slice() == b"back 0 rows 3\nask 0.0 rows 3 count 2\n".as_slice());
+    assert!(rt; lines.as_slice() == b"back 0 rows 3\nask 0.0 rows 3 count 2\n".as_slice());
     Ok(())
 }

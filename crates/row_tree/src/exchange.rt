@@ -13,6 +13,7 @@ use query_plan::Keys;
 use ring128::Memory;
 use server_rounds::Ready;
 use std::alloc::Global;
+use visit_trace::Trace;
 use wire_line::Wire;
 
 /// What the client opened in the two runs: the number of the rows that pass, and the key times it.
@@ -44,8 +45,9 @@ pub(crate) fn exchange<W: Wire>(
         × IsTreePart s ms
         × IfOk result (λ pair. (length ms ≡ 9) × (pair.total ≡ tree_opened ms 0) × (pair.weighted ≡ tree_opened ms 1)) }
 {
-    let ready = Ready::send(alloc, keys, rows, wire)?;
-    let total = open_run(alloc, &ready, zero, one, two, 0, wire)?;
-    let weighted = open_run(alloc, &ready, zero, one, two, 1, wire)?;
+    let mut trace = Trace::new(alloc); // what servers see of a tree are the nodes that it lends
+    let ready = Ready::send(alloc, keys, rows, wire, &mut trace)?;
+    let total = open_run(alloc, &ready, zero, one, two, 0, wire, &mut trace)?;
+    let weighted = open_run(alloc, &ready, zero, one, two, 1, wire, &mut trace)?;
     Ok(TreePair { total, weighted })
 }

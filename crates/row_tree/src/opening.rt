@@ -10,9 +10,10 @@ ghost use Rattle.server_rounds.specs.Rounds.{IsOpened, sum_word};
 ghost use Rattle.server_rounds.specs.declared.way.Way.{Way};
 ghost use Rattle.row_tree.specs.Rounds.{tree_counter};
 
-use ring128::{Memory, Words};
-use server_rounds::{Ready, Trio, Way, open_words};
+use ring128::{Memory, Words, add};
+use server_rounds::{Ready, Trio, Way, carry_three};
 use std::alloc::Global;
+use visit_trace::Trace;
 use wire_line::Wire;
 
 /// A server's two sums of rows.
@@ -45,6 +46,20 @@ fn word(alloc: Global, ready: &Ready, server: u8, run: u8, sums: &Sums) -> Resul
     Ok(Words::from_vec(words))
 }
 
+// Each server sends its word to the client, which adds up what it received.
+fn open_words<W: Wire>(wire: &mut W, trace: &mut Trace, words: Trio) -> Result<u128, Memory>
+    requires zero { length words.zero ≡ 1 }
+    requires one { length words.one ≡ 1 }
+    requires two { length words.two ≡ 1 }
+    ensures { (ms : List Message) × Went W.sight wire.old ms wire.new
+        × IsGroup Way.ToClient (by_server words.zero words.one words.two) ms
+        × IfOk result (λ total. IsOpened ms total) }
+{
+    let got = carry_three(wire, trace, Way::ToClient, words)?;
+    let near = add(got.zero.as_slice()[0], got.one.as_slice()[0]);
+    Ok(add(near, got.two.as_slice()[0]))
+}
+
 /// The three words of a run over the servers' sums, and the sum of those that the client received.
 pub(crate) fn open_run<W: Wire>(
     alloc: Global,
@@ -54,6 +69,7 @@ pub(crate) fn open_run<W: Wire>(
     two: &Sums,
     run: u8,
     wire: &mut W,
+    trace: &mut Trace,
 ) -> Result<u128, Memory>
     requires run { run < 2 }
     requires zero_first { length zero.now.first.items ≡ width_of ready.now.plan.widths (column_of ready.now.plan 0) }
@@ -72,6 +88,6 @@ pub(crate) fn open_run<W: Wire>(
     let zero = word(alloc, ready, 0, run, zero)?;
     let one = word(alloc, ready, 1, run, one)?;
     let two = word(alloc, ready, 2, run, two)?;
-    let total = open_words(wire, Trio { zero, one, two })?;
+    let total = open_words(wire, trace, Trio { zero, one, two })?;
     Ok(total)
 }

@@ -16,7 +16,7 @@ const RACE: &str = "race|host:2|--query|count host=3|--writers|1|--askers|1";
 /// How often a hold looks whether it is over, at most.
 const TURNS: u32 = 100_000_000;
 
-/// Whoever comes to the one point is held until another one comes to the other point, for so many turns at most.
+/// Whoever comes to the one point is held until another one comes to the other point, for `TURNS` turns at most.
 #[derive(Drop)]
 struct Hold {
     held: Point,

@@ -1,6 +1,7 @@
+use crate::faults::{AMPLE, Trial, tried};
 use report_lines::MemorySink;
 use ring128::Memory;
-use row_source::{MemorySource, SureSource};
+use row_source::SureSource;
 use std::alloc::Global;
 use std::process::Abort;
 use std::test::Fail;
@@ -10,10 +11,7 @@ use wire_line::{RecordWire, Shift, ShiftWire, Shifts, StraightWire, Wire};
 
 pub(crate) const INPUT: &str = "host,value\n3,10\n1,20\n3,5\n";
 
-const COUNT: &str = "ask|host:2|--query|count host=3";
-
-// A schedule whose step prints no line.
-const NOTHING_SAID: &str = "replay|host:2|--query|count host=3|--schedule|f0";
+pub(crate) const COUNT: &str = "ask|host:2|--query|count host=3";
 
 const TIME: &str = "ask|time:8@1700000000/3600|--query|count time=1700000000";
 
@@ -31,7 +29,7 @@ const ANSWERED: &str =
 const ANSWERED_TEXT: &str =
     "draw 0 place 0\ndraw 1 place 1\nask 1.0 again server 2 had 0 floor 2\nask 1.1 rows 2 count 1\n";
 
-const CASES: [Case; 51] = [
+const CASES: [Case; 55] = [
     (COUNT, INPUT, 0, "ask 0 rows 3 count 2\n"),
     (COUNT, "host,value\n", 0, "ask 0 rows 0 count 0\n"),
     (
@@ -254,13 +252,33 @@ const CASES: [Case; 51] = [
         "ask 0 rows 65536 count 2048\nask 1 rows 65536 sum 138311680\n",
     ),
     ("make|host:2", "", 2, "waldo: missing --query\n"),
-    // A race, which run_still never has, and a command that is not built yet.
+    // A race, which run_still never has.
     ("race", INPUT, 2, "waldo: bad word 0\n"),
+    // What servers see: one chunk, and key messages of 40 and 64 words.
     (
         "trace|host:2|--query|count host=3",
         INPUT,
-        2,
-        "waldo: bad word 0\n",
+        0,
+        "trace 0 server 0 visits 2 words 54\ntrace 0 server 1 visits 2 words 54\ntrace 0 server 2 visits 2 words 54\n",
+    ),
+    (
+        "trace|host:2,level:1|--query|sum host=3 level=1",
+        "host,level,value\n3,1,10\n3,0,20\n1,1,40\n3,1,80\n",
+        0,
+        "trace 0 server 0 visits 6 words 114\ntrace 0 server 1 visits 6 words 114\ntrace 0 server 2 visits 6 words 114\n",
+    ),
+    (
+        "trace|host:2|--query|count host=3",
+        "host,value\n",
+        0,
+        "trace 0 server 0 visits 0 words 42\ntrace 0 server 1 visits 0 words 42\ntrace 0 server 2 visits 0 words 42\n",
+    ),
+    ("trace|host:2", INPUT, 2, "waldo: missing --query\n"),
+    (
+        "trace|host:2|--query|count host=3",
+        "host,value\n4,10\n",
+        5,
+        "waldo: record 1 Domain\n",
     ),
 ];
 
@@ -294,7 +312,7 @@ fn record_wires(alloc: Global) -> Result<Vec<RecordWire>, Memory> {
 }
 
 // Sixteen wires that keep their messages, of which the first adds each amount to the first word of a message.
-fn shift_wires(
+pub(crate) fn shift_wires(
     alloc: Global,
     amounts: &[(u64, u128)],
 ) -> Result<Vec<ShiftWire<RecordWire>>, Memory> {
@@ -315,66 +333,32 @@ fn shift_wires(
     Ok(wires)
 }
 
-// The status and the text of a run over these wires, of whose source and sink the reads and puts with these numbers fail.
+// The status and the text of a run over these wires, without a fault.
 fn runs<R: Abort + Threads + Sync, W: Wire>(
     rt: &R,
     alloc: Global,
     case: &Case,
     wires: &mut Vec<W>,
-    reads: &[u64],
-    puts: &[u64],
 ) -> Result<(), Memory> {
     let (words, input, status, text) = *case;
-    let list = words_of(alloc, words)?;
-    let mut source = MemorySource::new(alloc, input.as_bytes(), reads)?;
-    let mut sink = MemorySink::new(alloc, 1000, puts)?;
-    assert_eq!(rt; wires.len(), 16);
-    assert_eq!(rt;
-        run_still(rt, alloc, &list, &mut source, &mut sink, wires),
+    let trial = Trial {
+        words,
+        input,
+        reads: &[],
+        room: AMPLE,
+        puts: &[],
         status,
-        "{words}"
-    );
-    assert!(rt; sink.bytes() == text.as_bytes(), "{words}");
-    Ok(())
-}
-
-fn straight<R: Abort + Threads + Sync>(
-    rt: &R,
-    alloc: Global,
-    case: &Case,
-    reads: &[u64],
-    puts: &[u64],
-) -> Result<(), Memory> {
-    let mut wires = straight_wires(alloc)?;
-    runs(rt, alloc, case, &mut wires, reads, puts)
+        text,
+    };
+    tried(rt, alloc, &trial, wires)
 }
 
 #[test]
 fn answers_and_refusals(rt: HostRuntime) -> Result<(), Fail> {
-    for case in &CASES {
-        straight(&rt, rt.alloc(), case, &[], &[])
-            .ok()
-            .ok_or("memory")?;
-    }
-    Ok(())
-}
-
-#[test]
-fn faults(rt: HostRuntime) -> Result<(), Fail> {
     let alloc = rt.alloc();
-    let count = (COUNT, INPUT, 0, "ask 0 rows 3 count 2\n");
-    let cases: [(Case, &[u64], &[u64]); 6] = [
-        ((COUNT, INPUT, 3, "waldo: read fault\n"), &[1], &[]),
-        (count, &[2], &[]), // nothing is read after the end
-        ((COUNT, INPUT, 4, ""), &[], &[0]),
-        (count, &[], &[1]), // the text is put in one piece
-        ((NOTHING_SAID, "host,value\n", 4, ""), &[], &[0]), // and so is an empty one
-        (("ask|host:9", INPUT, 2, ""), &[0], &[0]),
-    ];
-    for (case, reads, puts) in &cases {
-        straight(&rt, alloc, case, reads, puts)
-            .ok()
-            .ok_or("memory")?;
+    for case in &CASES {
+        let mut wires = straight_wires(alloc).ok().ok_or("memory")?;
+        runs(&rt, alloc, case, &mut wires).ok().ok_or("memory")?;
     }
     Ok(())
 }
@@ -387,7 +371,7 @@ fn lengths<R: Abort + Threads + Sync>(
     lengths: &[usize],
 ) -> Result<(), Memory> {
     let mut wires = record_wires(alloc)?;
-    runs(rt, alloc, case, &mut wires, &[], &[])?;
+    runs(rt, alloc, case, &mut wires)?;
     assert_eq!(rt; wires.len(), 16);
     let messages = wires[0].messages();
     assert_eq!(rt; messages.len(), lengths.len());
@@ -438,7 +422,7 @@ const KEY: u128 = 11186861279801934813;
 #[test]
 fn alterations(rt: HostRuntime) -> Result<(), Fail> {
     let alloc = rt.alloc();
-    let cases: [(Case, &[(u64, u128)]); 5] = [
+    let cases: [(Case, &[(u64, u128)]); 6] = [
         (
             (
                 COUNT,
@@ -473,14 +457,28 @@ fn alterations(rt: HostRuntime) -> Result<(), Fail> {
             ),
             &[(6, 1 << 64), (12, KEY << 64)],
         ),
-        // A second that a count of one predicate doesn't use, made good at the opening.
+        // What servers see of an altered query and of one that is not, with the line of the first.
+        (
+            (
+                "trace|host:2|--query|count host=3|--query|sum host<=1",
+                INPUT,
+                7,
+                "ask 0 rows 3 altered total 3 weighted 22373722559603869626\n\
+                 trace 0 server 0 visits 2 words 54\n\
+                 trace 0 server 1 visits 2 words 54\n\
+                 trace 0 server 2 visits 2 words 54\n\
+                 trace 1 server 0 visits 4 words 62\n\
+                 trace 1 server 1 visits 4 words 62\n\
+                 trace 1 server 2 visits 4 words 62\n",
+            ),
+            &[(6, 1)],
+        ),
+        // A second that a count of one predicate does not use, made good at the opening.
         ((COUNT, INPUT, 0, "ask 0 rows 3 count 2\n"), &[(3, 1)]),
     ];
     for (case, amounts) in &cases {
         let mut wires = shift_wires(alloc, amounts).ok().ok_or("memory")?;
-        runs(&rt, alloc, case, &mut wires, &[], &[])
-            .ok()
-            .ok_or("memory")?;
+        runs(&rt, alloc, case, &mut wires).ok().ok_or("memory")?;
     }
     Ok(())
 }
@@ -525,7 +523,7 @@ fn an_interval_of_a_day(rt: HostRuntime) -> Result<(), Fail> {
     Ok(())
 }
 
-// So many rows, row i of host i modulo 4 and with value i.
+// `rows` rows, row i of host i modulo 4 and with value i.
 fn hosts(alloc: Global, rows: u64) -> Result<String, Memory> {
     let mut text = String::from_str(alloc, "host,value\n")?;
     for i in 0..rows {
@@ -573,6 +571,43 @@ fn chunks_and_workers(rt: HostRuntime) -> Result<(), Fail> {
                 .ok()
                 .ok_or("memory")?;
         }
+    }
+    Ok(())
+}
+
+// This many rows, each of this text.
+fn rows_alike(alloc: Global, rows: u64, row: &str) -> Result<String, Memory> {
+    let mut text = String::from_str(alloc, "host,value\n")?;
+    for _ in 0..rows {
+        writeln!(text, "{row}")?;
+    }
+    Ok(text)
+}
+
+const SUM_SEEN: &str =
+    "trace 0 server 0 visits 12 words 614\ntrace 0 server 1 visits 12 words 614\ntrace 0 server 2 visits 12 words 614\n";
+
+const COUNT_SEEN: &str =
+    "trace 0 server 0 visits 6 words 562\ntrace 0 server 1 visits 6 words 562\ntrace 0 server 2 visits 6 words 562\n";
+
+// Neither the values of the rows nor the bounds of the query change what the servers see.
+#[test]
+fn traces(rt: HostRuntime) -> Result<(), Fail> {
+    let alloc = rt.alloc();
+    let cases = [
+        ("trace|host:2|--query|sum host=0..1", "0,0", SUM_SEEN),
+        (
+            "trace|host:2|--query|sum host=2..3",
+            "3,4294967295",
+            SUM_SEEN,
+        ),
+        ("trace|host:2|--query|count host=3", "0,0", COUNT_SEEN),
+    ];
+    for (words, row, text) in cases {
+        let input = rows_alike(alloc, 130, row).ok().ok_or("memory")?;
+        answers(&rt, alloc, words, &input, text)
+            .ok()
+            .ok_or("memory")?;
     }
     Ok(())
 }

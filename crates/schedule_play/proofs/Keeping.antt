@@ -1,5 +1,5 @@
 -- A loop over steps, from one time round to the next.
-use Rattle.std.proofs.Common.{◌≡◌, sym, subst, ℕ, ◌+◌, List, [], ◌++◌, length, arith, length-append}
+use Rattle.std.proofs.Common.{◌≡◌, ◌∙◌, refl, sym, subst, ℕ, ◌+◌, List, [], ◌++◌, length, arith, length-append}
 use Rattle.table_schema.specs.declared.widths.Widths.{Widths}
 use Rattle.waldo_words.specs.declared.schedule.Step.{Step}
 use Rattle.schedule_play.specs.Leads.{Leads, Stops}
@@ -13,19 +13,19 @@ use Rattle.schedule_play.proofs.Outcomes.{leads_both, leads_none, leads_stops, s
 use Rattle.wire_line.specs.Sights.{Sight, NonePasses, BothPass}
 
 module _ {W : Type 0} (sight : Sight W) (w : Widths) (s : Setting) (style : Style) where
-  pub kept_first : NonePasses sight → (p : Progress) (vs : List W) → IsReady w s p → length vs ≡ 16 → Kept sight w s style p vs [] p vs
-  kept_first none p vs ready sixteen =
-      record { ready = ready; done = omega arith; sixteen = sixteen; leads = leads_none sight w s style none (stage_of p) vs }
+  pub kept_first : NonePasses sight → (p : Progress) (vs : List W) → IsReady w s p → Kept sight w s style p vs [] p vs
+  kept_first none p vs ready =
+      record { ready = ready; done = omega arith; same = refl; leads = leads_none sight w s style none (stage_of p) vs }
 
   pub kept_more : BothPass sight → (first mid now : Progress) (vs us ws : List W) (xs ys zs : List Step) → zs ≡ xs ++ ys → Kept sight w s style first vs xs mid us
-      → IsReady w s now → now.done ≡ mid.done + length ys → length ws ≡ 16 → Leads sight w s style (stage_of mid) us ys (stage_of now) ws
+      → IsReady w s now → now.done ≡ mid.done + length ys → length ws ≡ length us → Leads sight w s style (stage_of mid) us ys (stage_of now) ws
       → Kept sight w s style first vs zs now ws
-  kept_more both first mid now vs us ws xs ys zs are kept ready done sixteen leads =
+  kept_more both first mid now vs us ws xs ys zs are kept ready done same leads =
       subst (λ (l : List Step). Kept sight w s style first vs l now ws) (sym are)
       (record {
         ready = ready;
         done = omega (arith, done, kept.done, length-append xs ys);
-        sixteen = sixteen;
+        same = same ∙ kept.same;
         leads = leads_both sight w s style both (stage_of first) (stage_of mid) (stage_of now) vs us ws xs ys kept.leads leads;
       })
 

@@ -14,5 +14,5 @@ pub record Kept {W : Type 0} (sight : Sight W)
     (w : Widths) (s : Setting) (style : Style) (first : Progress) (before : List W) (xs : List Step) (now : Progress) (after : List W) : Type 0 where
   pub ready : IsReady w s now
   pub done : now.done ≡ first.done + length xs
-  pub sixteen : length after ≡ 16
+  pub same : length after ≡ length before
   pub leads : Leads sight w s style (stage_of first) before xs (stage_of now) after

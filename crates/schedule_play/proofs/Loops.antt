@@ -4,6 +4,8 @@ use Rattle.std.specs.List.{flat_map, range_with_len}
 use Rattle.std.proofs.lemmas.List.{take_more}
 use Rattle.std.proofs.lemmas.List.Concat.{flat_map-append}
 use Rattle.waldo_words.specs.declared.schedule.Step.{Step}
+use Rattle.schedule_play.specs.Stages.{HaveWires, actor_in}
+use Rattle.schedule_play.specs.Tasks.{ask_steps}
 
 -- numbers in a row, cut in two
 pub range_both : (a n m : ℕ) → range_with_len a (n + m) ≡ range_with_len a n ++ range_with_len (a + n) m
@@ -46,3 +48,14 @@ length-parts f k a zero long = omega arith
 length-parts f k a (suc n) long =
     let more : k * suc n ≡ k + k * n = omega arith in
     omega (arith, length-append (f a) (flat_map f (range_with_len (a + 1) n)), long a, length-parts f k (a + 1) n long, more)
+
+-- the steps of a query are of actor 0
+pub first_have_wires : (n q : ℕ) → 0 < n → HaveWires n (ask_steps q)
+first_have_wires n q some = at
+  where
+    at : (k : ℕ) (d : Step) → k < length (ask_steps q) → actor_in (get_or (ask_steps q) k d) < 16 → actor_in (get_or (ask_steps q) k d) < n
+    at zero d lt small = some
+    at (suc zero) d lt small = some
+    at (suc (suc zero)) d lt small = some
+    at (suc (suc (suc zero))) d lt small = some
+    at (suc (suc (suc (suc k)))) d lt small = absurd (omega (arith, lt))

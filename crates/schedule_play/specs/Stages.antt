@@ -1,5 +1,5 @@
 -- What steps come to, one after another.
-use Rattle.std.specs.Prelude.{ℕ, ◌+◌, ◌||◌, Bool, true, false, if◌then◌else◌, Option, Some, None, option_map, Result, Ok, Err, List, [], ◌∷◌, ◌++◌, length, slice_get, slice_set, slice_index_or}
+use Rattle.std.specs.Prelude.{ℕ, ◌+◌, ◌<◌, ◌||◌, All, Bool, true, false, if◌then◌else◌, Option, Some, None, option_map, Result, Ok, Err, List, [], ◌∷◌, ◌++◌, length, slice_get, slice_set, slice_index_or}
 use Rattle.list_facts.specs.Listed.{listed}
 use Rattle.prg_chacha.specs.Prg.{derive_of}
 use Rattle.query_plan.specs.declared.query.Query.{Query}
@@ -55,6 +55,10 @@ actor_in (steps.Place actor server) = actor
 actor_in (steps.Look actor server) = actor
 actor_in (steps.Fix actor) = actor
 actor_in (steps.Answer actor query) = actor
+
+-- each actor of these steps that there is has one of so many wires
+abbrev pub HaveWires : ℕ → List Step → Type 0
+HaveWires wires xs = All (λ (x : Step). actor_in x < 16 → actor_in x < wires) xs
 
 -- the server that a look goes to
 abbrev pub server_in : Step → ℕ

@@ -29,6 +29,6 @@ mod setting;
 mod steps;
 mod style;
 
-pub use play::{PlayFault, Played, ask, replay};
+pub use play::{PlayFault, Played, ask, ask_over, replay};
 pub use setting::Setting;
 pub use style::Style;

@@ -1,5 +1,5 @@
 //! Steps on a machine and over wires.
-ghost use Rattle.std.specs.Prelude.{◌≡◌, ◌^◌, ◌<◌, ◌≤◌, IfErr, OnOk, length};
+ghost use Rattle.std.specs.Prelude.{◌≡◌, ◌^◌, ◌<◌, ◌≤◌, [], ◌∷◌, IfErr, OnOk, length};
 ghost use Rattle.std.specs.List.{flat_map, range_with_len};
 ghost use Rattle.schedule_play.specs.Leads.{Leads, Stops};
 ghost use Rattle.schedule_play.specs.Plays.{Plays, seen};
@@ -55,8 +55,8 @@ fn ask_queries<R: Threads + Sync, W: Wire>(
     requires queries { length setting.now.queries.now ≤ 16 }
     requires ready { IsReady setting.now.widths (seen setting.now) progress.old }
     requires few { progress.old.done < 2 ^ 39 }
-    requires wires { length wires.old.items ≡ 16 }
-    ensures wires { length wires.new.items ≡ 16 }
+    requires wires { 0 < length wires.old.items }
+    ensures wires { length wires.new.items ≡ length wires.old.items }
     ensures leads { OnOk result (Leads W.sight setting.now.widths (seen setting.now) styles.Queries (stage_of progress.old) wires.old.items
         (flat_map ask_steps (range_with_len 0 (length setting.now.queries.now))) (stage_of progress.new) wires.new.items) }
     ensures stops { IfErr result (Stops W.sight setting.now.widths (seen setting.now) styles.Queries progress.old.done
@@ -77,7 +77,7 @@ fn ask_queries<R: Threads + Sync, W: Wire>(
     Ok(())
 }
 
-/// Appends the rows one after another and then asks each query over all of them. Everything goes over the first of 16
+/// Appends the rows one after another and then asks each query over all of them. Everything goes over the first of the
 /// wires.
 pub fn ask<R: Threads + Sync, W: Wire>(
     rt: &R,
@@ -89,8 +89,8 @@ pub fn ask<R: Threads + Sync, W: Wire>(
     requires queries { length setting.now.queries.now ≤ 16 }
     requires some { 1 ≤ setting.now.workers }
     requires few { setting.now.workers ≤ 16 }
-    requires wires { length wires.old.items ≡ 16 }
-    ensures wires { length wires.new.items ≡ 16 }
+    requires wires { 0 < length wires.old.items }
+    ensures wires { length wires.new.items ≡ length wires.old.items }
     ensures plays { Plays setting.now.widths (asking (seen setting.now)) (Carried W.sight wires.old.items wires.new.items)
         (Unaltered W.sight wires.old.items wires.new.items) result }
 {
@@ -98,6 +98,39 @@ pub fn ask<R: Threads + Sync, W: Wire>(
     progress.append_rows(rt, alloc, setting)?;
     ask_queries(&mut progress, rt, alloc, setting, wires)?;
     Ok(progress.into_played())
+}
+
+// The one element of a list of one.
+fn only_one<T: Drop>(mut list: Vec<T>) -> T
+    requires { length list.items ≡ 1 }
+    ensures { list.items ≡ result ∷ [] }
+{
+    match list.pop() {
+        Some(only) => only,
+        None => unreachable!(),
+    }
+}
+
+/// The same over one wire, which is given back.
+pub fn ask_over<R: Threads + Sync, W: Wire + Drop>(
+    rt: &R,
+    alloc: Global,
+    setting: &Setting<'_>,
+    wire: W,
+) -> (Result<Played, PlayFault>, W)
+    requires legal { IsSetting setting.now.widths (seen setting.now) }
+    requires queries { length setting.now.queries.now ≤ 16 }
+    requires some { 1 ≤ setting.now.workers }
+    requires few { setting.now.workers ≤ 16 }
+    ensures plays { Plays setting.now.widths (asking (seen setting.now)) (Carried W.sight (wire ∷ []) (result.1 ∷ []))
+        (Unaltered W.sight (wire ∷ []) (result.1 ∷ [])) result.0 }
+{
+    let Ok(mut wires) = Vec::with_capacity(alloc, 1) else {
+        return (Err(PlayFault::Memory), wire);
+    };
+    wires.push_reserved(wire);
+    let played = ask(rt, alloc, setting, &mut wires);
+    (played, only_one(wires))
 }
 
 /// Does the steps of a schedule one after another. Actor a's answers go over wire a of 16.

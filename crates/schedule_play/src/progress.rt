@@ -3,7 +3,7 @@ ghost use Rattle.std.specs.Prelude.{ℕ, ◌≡◌, ◌+◌, ◌*◌, ◌^◌, �
 ghost use Rattle.schedule_play.specs.Appended.{stage_with_rows};
 ghost use Rattle.schedule_play.specs.Leads.{Leads, Stops};
 ghost use Rattle.schedule_play.specs.Plays.{seen};
-ghost use Rattle.schedule_play.specs.Stages.{actor_in, event_of, first_stage, is_asked, lines_of, with_reply};
+ghost use Rattle.schedule_play.specs.Stages.{HaveWires, actor_in, event_of, first_stage, is_asked, lines_of, with_reply};
 ghost use Rattle.waldo_core.specs.Step.{is_altered};
 ghost use Rattle.schedule_play.specs.Tasks.{IsSetting};
 
@@ -172,7 +172,7 @@ impl Progress {
         Ok(())
     }
 
-    /// Does a step. Out of memory, the first messages of an answer may have been carried.
+    /// Does a step over its actor's wire. Out of memory, the first messages of an answer may have been carried.
     fn step<R: Threads + Sync, W: Wire>(
         &mut self,
         rt: &R,
@@ -185,8 +185,8 @@ impl Progress {
         requires legal { IsSetting setting.now.widths (seen setting.now) }
         requires ready { IsReady setting.now.widths (seen setting.now) self.old }
         requires few { self.old.done < 2 ^ 40 }
-        requires wires { length wires.old.items ≡ 16 }
-        ensures wires { length wires.new.items ≡ 16 }
+        requires wires { actor_in step < 16 → actor_in step < length wires.old.items }
+        ensures wires { length wires.new.items ≡ length wires.old.items }
         ensures ready { OnOk result (IsReady setting.now.widths (seen setting.now) self.new) }
         ensures done { OnOk result (self.new.done ≡ self.old.done + 1) }
         ensures leads { OnOk result (Leads W.sight setting.now.widths (seen setting.now) style (stage_of self.old) wires.old.items
@@ -226,8 +226,8 @@ impl Progress {
         requires legal { IsSetting setting.now.widths (seen setting.now) }
         requires ready { IsReady setting.now.widths (seen setting.now) self.old }
         requires few { self.old.done + length steps.now < 2 ^ 40 }
-        requires wires { length wires.old.items ≡ 16 }
-        ensures wires { length wires.new.items ≡ 16 }
+        requires wires { HaveWires (length wires.old.items) steps.now }
+        ensures wires { length wires.new.items ≡ length wires.old.items }
         ensures ready { OnOk result (IsReady setting.now.widths (seen setting.now) self.new) }
         ensures done { OnOk result (self.new.done ≡ self.old.done + length steps.now) }
         ensures leads { OnOk result (Leads W.sight setting.now.widths (seen setting.now) style (stage_of self.old) wires.old.items

@@ -5,5 +5,7 @@ pub mod Parts
 pub mod Tables
 pub mod Runs
 pub mod Both
+pub mod OneServer
 pub mod Adding
 pub mod Visiting
+pub mod Noting

@@ -22,7 +22,8 @@ pub record CanScan {S : Type 0} (held : S → Held) (z : Sizes) (keys : KeysRead
   pub rows : AreShelves z.widths z.rows (map held shelves)
 
 -- the shelves before and after, and the words of the bits
-pub record GivesBits {S : Type 0} (held : S → Held) (visited : S → List Visit) (z : Sizes) (keys : KeysRead) (run j : ℕ) (old new : List S) (result : Result (List ℕ) Memory) : Type 0 where
+pub record GivesBits {S : Type 0} (held : S → Held) (visited : S → List Visit) (z : Sizes) (keys : KeysRead) (run j : ℕ)
+    (old new : List S) (result : Result (List ℕ) Memory) : Type 0 where
   pub same : map held new ≡ map held old
   pub long : IfOk result (λ w. length w ≡ z.rows)
   pub words : IfOk result (λ w. w ≡ bits_words z run (view_from keys) (pieces_of (map held old)) j)
@@ -36,7 +37,8 @@ pub record CanMultiply (z : Sizes) (run j : ℕ) (chain bits : Pairs) : Type 0 w
   pub bits_long : AreLong z.rows bits
 
 -- the words of a server's part of a product
-pub record GivesProduct (z : Sizes) (run : ℕ) (views : ℕ → View) (j : ℕ) (chain bits : Pairs) (server : ℕ) (result : Result (List ℕ) Memory) : Type 0 where
+pub record GivesProduct (z : Sizes) (run : ℕ) (views : ℕ → View) (j : ℕ) (chain bits : Pairs) (server : ℕ)
+    (result : Result (List ℕ) Memory) : Type 0 where
   pub long : IfOk result (λ w. length w ≡ z.rows)
   pub words : IfOk result (λ w. w ≡ products_of z run views j chain bits server)
 
@@ -47,10 +49,12 @@ pub record CanOpen {S : Type 0} (held : S → Held) (z : Sizes) (run : ℕ) (cha
   pub rows : AreShelves z.widths z.rows (map held shelves)
 
 -- the shelves before and after, and the word of the opening
-pub record GivesOpening {S : Type 0} (held : S → Held) (visited : S → List Visit) (z : Sizes) (run : ℕ) (views : ℕ → View) (chain : Pairs) (server : ℕ) (old new : List S) (result : Result (List ℕ) Memory) : Type 0 where
+pub record GivesOpening {S : Type 0} (held : S → Held) (visited : S → List Visit) (z : Sizes) (run : ℕ) (views : ℕ → View)
+    (chain : Pairs) (server : ℕ) (old new : List S) (result : Result (List ℕ) Memory) : Type 0 where
   pub same : map held new ≡ map held old
   pub long : IfOk result (λ w. length w ≡ 1)
-  pub words : IfOk result (λ w. w ≡ opening_words z run (views server) (pieces_of (map held old)) (first_of chain server) (second_of chain server))
+  pub words : IfOk result (λ w. w ≡ opening_words z run (views server) (pieces_of (map held old))
+      (first_of chain server) (second_of chain server))
   pub visits : AreVisited held visited (opened_columns z.shape.aggregate z.widths.columns) old new result
 
 -- the words of three servers, each of which had memory

@@ -1,5 +1,5 @@
 -- What a run goes by: numbers within the limits, and keys for them.
-use Rattle.std.specs.Prelude.{ℕ, ◌≡◌, ◌<◌, ◌≤◌, List, length}
+use Rattle.std.specs.Prelude.{ℕ, ◌≡◌, ◌<◌, List, length}
 use Rattle.onehot_column.specs.Code.{width_of}
 use Rattle.query_plan.specs.KeyMessages.{Asked, KeysRead, message_words, view_from, view_of}
 use Rattle.query_plan.specs.Query.{shaped}
@@ -8,13 +8,8 @@ use Rattle.transcript.specs.Setup.{Sizes, count_of, column_of}
 use Rattle.server_rounds.specs.declared.keys.ThreeKeys.{ThreeKeys}
 use Rattle.zero_share.specs.declared.seeds.ZeroSeeds.{ZeroSeeds}
 use Rattle.server_rounds.specs.Groups.{by_server}
-
--- at most 65536 rows, and 1 to 4 predicates on columns that are there
-pub record AreLegal (z : Sizes) : Type 0 where
-  pub rows : z.rows ≤ 65536
-  pub some : 0 < count_of z
-  pub few : count_of z ≤ 4
-  pub there : (j : ℕ) → j < count_of z → column_of z j < z.widths.columns
+-- the limits
+pub use Rattle.visit_trace.specs.Sizes.{AreLegal}
 
 -- keys of each predicate in both runs, with tables as long as the predicate's column is wide
 pub record HasTables (z : Sizes) (keys : KeysRead) : Type 0 where

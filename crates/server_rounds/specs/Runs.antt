@@ -37,27 +37,32 @@ pub record EndsWith (pairs : Pairs) (ms : List Message) : Type 0 where
   pub second : (k : ℕ) → k < 3 → second_of pairs k ≡ (message_at ms (length ms - 3 + after k)).received
 
 -- the messages of a run through the product of predicate j - 1, however the run ends; the servers then hold this chain
-pub record HaveProducts (z : Sizes) (pieces : ℕ → Pieces) (run : ℕ) (views : ℕ → View) (j : ℕ) (chain : Pairs) (ms : List Message) : Type 0 where
+pub record HaveProducts (z : Sizes) (pieces : ℕ → Pieces) (run : ℕ) (views : ℕ → View) (j : ℕ)
+    (chain : Pairs) (ms : List Message) : Type 0 where
   pub some : 0 < j
   pub part : (ending : Ending) → IsRunPart z ending pieces run views ms
   pub long : length ms + 3 ≡ 6 * j
   pub ends : EndsWith chain ms
 
 -- the messages of a run through all products and e further steps; the servers then hold these pairs
-pub record HaveEnded (z : Sizes) (ending : Ending) (pieces : ℕ → Pieces) (run : ℕ) (views : ℕ → View) (e : ℕ) (pairs : Pairs) (ms : List Message) : Type 0 where
+pub record HaveEnded (z : Sizes) (ending : Ending) (pieces : ℕ → Pieces) (run : ℕ) (views : ℕ → View)
+    (e : ℕ) (pairs : Pairs) (ms : List Message) : Type 0 where
   pub some : 0 < count_of z
   pub part : IsRunPart z ending pieces run views ms
   pub long : length ms + 3 ≡ 6 * count_of z + 3 * e
   pub ends : EndsWith pairs ms
 
 -- these are all messages of the run, and the client opened this number at word i
-pub record IsRun (z : Sizes) (ending : Ending) (pieces : ℕ → Pieces) (run : ℕ) (views : ℕ → View) (ms : List Message) (i total : ℕ) : Type 0 where
+pub record IsRun (z : Sizes) (ending : Ending) (pieces : ℕ → Pieces) (run : ℕ) (views : ℕ → View)
+    (ms : List Message) (i total : ℕ) : Type 0 where
   pub full : length ms ≡ 6 * count_of z + 3 * ending.further
-  pub sum : (keys : ℕ → List ℕ) (read : List ℕ → View) (earlier : List Message) → IsBefore (setup_of z ending keys read pieces) run views earlier
+  pub sum : (keys : ℕ → List ℕ) (read : List ℕ → View) (earlier : List Message)
+      → IsBefore (setup_of z ending keys read pieces) run views earlier
       → total ≡ opened_at (setup_of z ending keys read pieces) (earlier ++ ms) run i
 
 -- the messages of predicate j, from 1 on: its bits, and then its product
-pub record IsPredicatePart (z : Sizes) (run : ℕ) (views : ℕ → View) (pieces : ℕ → Pieces) (j : ℕ) (chain : Pairs) (ms : List Message) : Type 0 where
+pub record IsPredicatePart (z : Sizes) (run : ℕ) (views : ℕ → View) (pieces : ℕ → Pieces) (j : ℕ)
+    (chain : Pairs) (ms : List Message) : Type 0 where
   pub bit_messages : List Message
   pub product_messages : List Message
   pub both : ms ≡ bit_messages ++ product_messages

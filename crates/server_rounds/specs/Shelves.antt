@@ -8,7 +8,7 @@ use Rattle.scan_chunks.specs.Laws.{GoOn}
 use Rattle.table_schema.specs.declared.widths.Widths.{Widths}
 use Rattle.onehot_column.specs.Code.{width_of}
 
--- shelves of so many rows together, with the columns of these widths; the first begins with chunk 0, and each goes on from the one
+-- shelves of `rows` rows together, with the columns of these widths; the first begins with chunk 0, and each goes on from the one
 -- before it
 pub record AreShelves (widths : Widths) (rows : ℕ) (shelves : List Held) : Type 0 where
   pub count : total (λ (h : Held). h.rows) shelves ≡ rows

@@ -3,6 +3,8 @@ ghost use Rattle.wire_line.specs.declared.message.Message.{Message};
 ghost use Rattle.wire_line.specs.Messages.{Went};
 ghost use Rattle.transcript.specs.Setup.{count_of};
 ghost use Rattle.server_rounds.specs.Groups.{AreLong, AreReshared, IsGroup, Pairs};
+ghost use Rattle.visit_trace.specs.Seen.{GrewBy};
+ghost use Rattle.server_rounds.specs.Noted.{product_of};
 ghost use Rattle.server_rounds.specs.Plans.{views_of};
 ghost use Rattle.server_rounds.specs.Rounds.{products_of};
 
@@ -15,6 +17,7 @@ use crate::way::Way;
 use ring128::Memory;
 use std::alloc::Global;
 use std::thread::Threads;
+use visit_trace::Trace;
 use wire_line::Wire;
 
 /// The state of a run in which the servers hold the bits of predicate j, from 0, and the product of the bits of those before
@@ -37,13 +40,14 @@ pub struct Bits {
 impl Bits {
     /// The product with the bits: the servers multiply their shares row by row and send each other their words. For the first
     /// predicate it is its bits, and no message is carried. The only error is want of memory; the first of these messages may
-    /// then have been carried.
+    /// then have been carried, and the first lengths noted.
     pub fn product<R: Threads + Sync, W: Wire>(
         self,
         rt: &R,
         alloc: Global,
         ready: &Ready,
         wire: &mut W,
+        trace: &mut Trace,
     ) -> Result<Product, Memory>
         ensures plan { IfOk result (λ p. p.plan ≡ self.plan) }
         ensures run { IfOk result (λ p. p.run ≡ self.run) }
@@ -52,6 +56,7 @@ impl Bits {
             × MatchOption self.chain (ms ≡ [])
             (λ chain. IsGroup Way.Around (products_of self.plan self.run (views_of ready.now.keys) self.j chain self.bits) ms)
             × IfOk result (λ p. MatchOption self.chain (p.chain ≡ self.bits) (λ _. AreReshared p.chain ms)) }
+        ensures trace { GrewBy trace.old trace.new (product_of self.plan self.chain) result }
     {
         let Bits {
             plan,
@@ -78,6 +83,7 @@ impl Bits {
                     &bits,
                     side_by_side,
                     wire,
+                    trace,
                     run,
                     j,
                 )?;

@@ -2,7 +2,9 @@
 ghost use Rattle.std.specs.Prelude.{◌≡◌, ◌<◌, List, length, IfOk};
 ghost use Rattle.wire_line.specs.declared.message.Message.{Message};
 ghost use Rattle.wire_line.specs.Messages.{Went};
+ghost use Rattle.visit_trace.specs.Seen.{GrewBy};
 ghost use Rattle.server_rounds.specs.Groups.{by_server, first_of, second_of, AreLong, AreReshared, IsGroup};
+ghost use Rattle.server_rounds.specs.Noted.{group_seen};
 
 use crate::carry::{Trio, carry_three};
 use crate::way::Way;
@@ -11,6 +13,7 @@ use ring128::Memory;
 use share_product::accept_reshare;
 use std::alloc::Global;
 use std::marker::Model;
+use visit_trace::Trace;
 use wire_line::Wire;
 
 /// The pairs of three servers.
@@ -72,17 +75,23 @@ impl Held {
     }
 }
 
-/// Each server sends its words to the one before it, and then holds them beside those that it received.
-pub fn reshare<W: Wire>(alloc: Global, wire: &mut W, words: Trio) -> Result<Held, Memory>
+/// Each server sends its words to the one before it, and then holds them beside those that it received. Their lengths are noted.
+pub fn reshare<W: Wire>(
+    alloc: Global,
+    wire: &mut W,
+    trace: &mut Trace,
+    words: Trio,
+) -> Result<Held, Memory>
     requires one { length words.one ≡ length words.zero }
     requires two { length words.two ≡ length words.zero }
     ensures long { IfOk result (λ held. AreLong (length words.zero) held) }
     ensures messages { (ms : List Message) × Went W.sight wire.old ms wire.new
         × IsGroup Way.Around (by_server words.zero words.one words.two) ms
         × IfOk result (λ held. AreReshared held ms) }
+    ensures trace { GrewBy trace.old trace.new (group_seen Way.Around (length words.zero) (length words.zero) (length words.zero)) result }
 {
     let sent = words.copied(alloc)?;
-    let got = carry_three(wire, Way::Around, sent)?;
+    let got = carry_three(wire, trace, Way::Around, sent)?;
     Ok(Held {
         zero: accept_reshare(words.zero, got.one),
         one: accept_reshare(words.one, got.two),

@@ -7,6 +7,8 @@ ghost use Rattle.server_rounds.specs.Plans.{views_of};
 ghost use Rattle.server_rounds.specs.Rounds.{IsOpened, bits_of, openings_of};
 ghost use Rattle.server_rounds.specs.Shelves.{AreShelves, pieces_of};
 ghost use Rattle.server_rounds.specs.Visits.{AllVisited, opened_columns};
+ghost use Rattle.visit_trace.specs.Seen.{GrewBy};
+ghost use Rattle.visit_trace.specs.Expected.{bits_part, opening_part};
 
 use crate::bits::Bits;
 use crate::held::Held;
@@ -20,6 +22,7 @@ use ring128::Memory;
 use scan_chunks::Shelf;
 use std::alloc::Global;
 use std::thread::Threads;
+use visit_trace::Trace;
 use wire_line::Wire;
 
 /// The state of a run in which the servers hold the product of the bits through predicate j, from 0.
@@ -45,6 +48,7 @@ impl Product {
         ready: &Ready,
         shelves: &mut Servers<S>,
         wire: &mut W,
+        trace: &mut Trace,
     ) -> Result<Bits, Memory>
         requires began { self.plan ≡ ready.now.plan }
         requires left { self.j + 1 < count_of self.plan }
@@ -64,6 +68,7 @@ impl Product {
             (ms : List Message) × Went W.sight wire.old ms wire.new
             × IsGroup Way.Around (bits_of self.plan self.run (views_of ready.now.keys) pieces (self.j + 1)) ms
             × IfOk result (λ b. AreReshared b.bits ms) }
+        ensures trace { GrewBy trace.old trace.new (bits_part self.plan (column_of self.plan (self.j + 1))) result }
     {
         let Product {
             plan,
@@ -73,7 +78,17 @@ impl Product {
         } = self;
         plan.count();
         let next = j + 1;
-        let bits = bits_round(rt, alloc, &plan, &ready.keys, shelves, wire, run, next)?;
+        let bits = bits_round(
+            rt,
+            alloc,
+            &plan,
+            &ready.keys,
+            shelves,
+            wire,
+            trace,
+            run,
+            next,
+        )?;
         Ok(Bits {
             plan,
             run,
@@ -105,6 +120,7 @@ impl Product {
         ready: &Ready,
         shelves: &mut Servers<S>,
         wire: &mut W,
+        trace: &mut Trace,
     ) -> Result<Opened, Memory>
         requires last { self.j + 1 ≡ count_of self.plan }
         requires zero { AreShelves self.plan.widths self.plan.rows (map S.held shelves.old.zero.items) }
@@ -119,6 +135,7 @@ impl Product {
             (ms : List Message) × Went W.sight wire.old ms wire.new
             × IsGroup Way.ToClient (openings_of self.plan self.run (views_of ready.now.keys) pieces self.chain) ms
             × IfOk result (λ opened. IsOpened ms opened.total) }
+        ensures trace { GrewBy trace.old trace.new (opening_part self.plan) result }
     {
         let Product {
             plan,
@@ -126,7 +143,17 @@ impl Product {
             chain,
             ..
         } = self;
-        let total = opening_round(rt, alloc, &plan, &ready.keys, &chain, shelves, wire, run)?;
+        let total = opening_round(
+            rt,
+            alloc,
+            &plan,
+            &ready.keys,
+            &chain,
+            shelves,
+            wire,
+            trace,
+            run,
+        )?;
         Ok(Opened { total })
     }
 }

@@ -9,6 +9,8 @@ ghost use Rattle.server_rounds.specs.Rounds.{bits_of};
 ghost use Rattle.server_rounds.specs.Runs.{HaveRead};
 ghost use Rattle.server_rounds.specs.Shelves.{AreShelves, pieces_of};
 ghost use Rattle.server_rounds.specs.Visits.{AllVisited, AreVisited};
+ghost use Rattle.visit_trace.specs.Seen.{GrewBy};
+ghost use Rattle.visit_trace.specs.Expected.{bits_part, keys_part};
 
 use crate::bits::Bits;
 use crate::carry::{Trio, carry_three};
@@ -26,6 +28,7 @@ use scan_chunks::Shelf;
 use std::alloc::Global;
 use std::thread::Threads;
 use table_schema::{Aggregate, Widths};
+use visit_trace::Trace;
 use wire_line::Wire;
 use zero_share::ZeroSeeds;
 
@@ -49,18 +52,20 @@ impl Ready {
         keys: &Keys,
         rows: u64,
         wire: &mut W,
+        trace: &mut Trace,
     ) -> Result<Ready, Memory>
         requires { rows ≤ 65536 }
         ensures plan { IfOk result (λ ready. ready.plan ≡ sizes_for keys.now rows) }
         ensures messages { (ms : List Message) × Went W.sight wire.old ms wire.new
             × IsGroup Way.ToServers (words_for keys.now) ms
             × IfOk result (λ ready. HaveRead (read_for keys.now) (views_of ready.keys) ms) }
+        ensures trace { GrewBy trace.old trace.new (keys_part (sizes_for keys.now rows)) result }
     {
         let plan = Plan::new(rows, keys.widths(), keys.shape());
         let zero = keys.message(alloc, 0)?;
         let one = keys.message(alloc, 1)?;
         let two = keys.message(alloc, 2)?;
-        let got = carry_three(wire, Way::ToServers, Trio { zero, one, two })?;
+        let got = carry_three(wire, trace, Way::ToServers, Trio { zero, one, two })?;
         let zero_read = plan.read_keys(alloc, &got.zero)?;
         let one_read = plan.read_keys(alloc, &got.one)?;
         let two_read = plan.read_keys(alloc, &got.two)?;
@@ -146,6 +151,7 @@ impl Ready {
         run: u8,
         shelves: &mut Servers<S>,
         wire: &mut W,
+        trace: &mut Trace,
     ) -> Result<Bits, Memory>
         requires run { run < 2 }
         requires zero { AreShelves self.now.plan.widths self.now.plan.rows (map S.held shelves.old.zero.items) }
@@ -164,9 +170,12 @@ impl Ready {
             (ms : List Message) × Went W.sight wire.old ms wire.new
             × IsGroup Way.Around (bits_of self.now.plan run (views_of self.now.keys) pieces 0) ms
             × IfOk result (λ b. AreReshared b.bits ms) }
+        ensures trace { GrewBy trace.old trace.new (bits_part self.now.plan (column_of self.now.plan 0)) result }
     {
         self.plan.count();
-        let bits = bits_round(rt, alloc, &self.plan, &self.keys, shelves, wire, run, 0)?;
+        let bits = bits_round(
+            rt, alloc, &self.plan, &self.keys, shelves, wire, trace, run, 0,
+        )?;
         Ok(Bits {
             plan: self.plan.same(),
             run,

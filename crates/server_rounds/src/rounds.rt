@@ -7,12 +7,18 @@ ghost use Rattle.server_rounds.specs.Groups.{by_server, AreLong, AreReshared, Is
 ghost use Rattle.server_rounds.specs.Plans.{HaveTables, views_of};
 ghost use Rattle.server_rounds.specs.Rounds.{IsOpened, bits_of, products_of, openings_of};
 ghost use Rattle.server_rounds.specs.Shelves.{AreShelves, pieces_of};
-ghost use Rattle.server_rounds.specs.Visits.{AllVisited, opened_columns};
+ghost use Rattle.server_rounds.specs.Visits.{AllVisited, HaveVisits, opened_columns, servers_last};
+ghost use Rattle.server_rounds.specs.Noted.{group_seen, values_last};
+ghost use Rattle.table_schema.specs.declared.shapes.Aggregate.TheVariants.{Sum};
+ghost use Rattle.visit_trace.specs.Seen.{GrewBy};
+ghost use Rattle.visit_trace.specs.Growing.{seen_then};
+ghost use Rattle.visit_trace.specs.Expected.{bits_part, opening_part, product_part};
 
 use crate::at_once::{all_three, bits_at_once, openings_at_once, products_at_once};
 use crate::carry::{Trio, carry_three};
 use crate::held::{Held, reshare};
 use crate::keys::ThreeKeys;
+use crate::noted::{note_last, note_values};
 use crate::plan::Plan;
 use crate::servers::Servers;
 use crate::way::Way;
@@ -20,6 +26,7 @@ use ring128::{Memory, add};
 use scan_chunks::Shelf;
 use std::alloc::Global;
 use std::thread::Threads;
+use visit_trace::Trace;
 use wire_line::Wire;
 
 /// The bits of predicate j, and the pairs that the servers then hold of them.
@@ -30,6 +37,7 @@ pub(crate) fn bits_round<R: Threads + Sync, S: Shelf + Send, W: Wire>(
     keys: &ThreeKeys,
     shelves: &mut Servers<S>,
     wire: &mut W,
+    trace: &mut Trace,
     run: u8,
     j: u8,
 ) -> Result<Held, Memory>
@@ -49,6 +57,7 @@ pub(crate) fn bits_round<R: Threads + Sync, S: Shelf + Send, W: Wire>(
         (ms : List Message) × Went W.sight wire.old ms wire.new
         × IsGroup Way.Around (bits_of plan.now run (views_of keys.now) pieces j) ms
         × IfOk result (λ held. AreReshared held ms) }
+    ensures trace { GrewBy trace.old trace.new (bits_part plan.now (column_of plan.now j)) result }
 {
     let (zero, others) = bits_at_once(
         rt,
@@ -62,8 +71,32 @@ pub(crate) fn bits_round<R: Threads + Sync, S: Shelf + Send, W: Wire>(
         &mut shelves.two,
     );
     let words = all_three(zero, others)?;
-    let held = reshare(alloc, wire, words)?;
+    let held = reshare_noted(alloc, shelves, wire, trace, words)?;
     Ok(held)
+}
+
+// Notes the visits that the servers' shelves had last, and then reshares the words.
+fn reshare_noted<S: Shelf, W: Wire>(
+    alloc: Global,
+    shelves: &Servers<S>,
+    wire: &mut W,
+    trace: &mut Trace,
+    words: Trio,
+) -> Result<Held, Memory>
+    requires one { length words.one ≡ length words.zero }
+    requires two { length words.two ≡ length words.zero }
+    requires zero_seen { HaveVisits S.held S.visited shelves.now.zero.items }
+    requires one_seen { HaveVisits S.held S.visited shelves.now.one.items }
+    requires two_seen { HaveVisits S.held S.visited shelves.now.two.items }
+    ensures long { IfOk result (λ held. AreLong (length words.zero) held) }
+    ensures messages { (ms : List Message) × Went W.sight wire.old ms wire.new
+        × IsGroup Way.Around (by_server words.zero words.one words.two) ms
+        × IfOk result (λ held. AreReshared held ms) }
+    ensures trace { GrewBy trace.old trace.new (seen_then (servers_last S.held S.visited shelves.now)
+        (group_seen Way.Around (length words.zero) (length words.zero) (length words.zero))) result }
+{
+    note_last(trace, shelves)?;
+    reshare(alloc, wire, trace, words)
 }
 
 /// The product of the chain with the bits of predicate j, and the pairs that the servers then hold of it.
@@ -76,6 +109,7 @@ pub(crate) fn product_round<R: Threads + Sync, W: Wire>(
     bits: &Held,
     side_by_side: bool,
     wire: &mut W,
+    trace: &mut Trace,
     run: u8,
     j: u8,
 ) -> Result<Held, Memory>
@@ -87,24 +121,37 @@ pub(crate) fn product_round<R: Threads + Sync, W: Wire>(
     ensures messages { (ms : List Message) × Went W.sight wire.old ms wire.new
         × IsGroup Way.Around (products_of plan.now run (views_of keys.now) j chain.now bits.now) ms
         × IfOk result (λ held. AreReshared held ms) }
+    ensures trace { GrewBy trace.old trace.new (product_part plan.now) result }
 {
     let (zero, others) = products_at_once(rt, alloc, plan, keys, chain, bits, side_by_side, run, j);
     let words = all_three(zero, others)?;
-    let held = reshare(alloc, wire, words)?;
+    let held = reshare(alloc, wire, trace, words)?;
     Ok(held)
 }
 
-/// Carries a word of each server to the client, which adds up what it received. The only error is out of memory; the first of these
-/// messages may then have been carried.
-pub fn open_words<W: Wire>(wire: &mut W, words: Trio) -> Result<u128, Memory>
+// Each server sends its word to the client, which adds up what it received. The visits of the values are noted before, where they
+// were summed.
+fn opened<S: Shelf, W: Wire>(
+    plan: &Plan,
+    shelves: &Servers<S>,
+    wire: &mut W,
+    trace: &mut Trace,
+    words: Trio,
+) -> Result<u128, Memory>
     requires zero { length words.zero ≡ 1 }
     requires one { length words.one ≡ 1 }
     requires two { length words.two ≡ 1 }
-    ensures { (ms : List Message) × Went W.sight wire.old ms wire.new
+    requires zero_seen { plan.now.shape.aggregate ≡ Sum → HaveVisits S.held S.visited shelves.now.zero.items }
+    requires one_seen { plan.now.shape.aggregate ≡ Sum → HaveVisits S.held S.visited shelves.now.one.items }
+    requires two_seen { plan.now.shape.aggregate ≡ Sum → HaveVisits S.held S.visited shelves.now.two.items }
+    ensures messages { (ms : List Message) × Went W.sight wire.old ms wire.new
         × IsGroup Way.ToClient (by_server words.zero words.one words.two) ms
         × IfOk result (λ total. IsOpened ms total) }
+    ensures trace { GrewBy trace.old trace.new (seen_then (values_last plan.now.shape.aggregate (servers_last S.held S.visited shelves.now))
+        (group_seen Way.ToClient 1 1 1)) result }
 {
-    let got = carry_three(wire, Way::ToClient, words)?;
+    note_values(trace, plan, shelves)?;
+    let got = carry_three(wire, trace, Way::ToClient, words)?;
     let near = add(got.zero.as_slice()[0], got.one.as_slice()[0]);
     Ok(add(near, got.two.as_slice()[0]))
 }
@@ -118,6 +165,7 @@ pub(crate) fn opening_round<R: Threads + Sync, S: Shelf + Send, W: Wire>(
     chain: &Held,
     shelves: &mut Servers<S>,
     wire: &mut W,
+    trace: &mut Trace,
     run: u8,
 ) -> Result<u128, Memory>
     requires run { run < 2 }
@@ -134,6 +182,7 @@ pub(crate) fn opening_round<R: Threads + Sync, S: Shelf + Send, W: Wire>(
         (ms : List Message) × Went W.sight wire.old ms wire.new
         × IsGroup Way.ToClient (openings_of plan.now run (views_of keys.now) pieces chain.now) ms
         × IfOk result (λ total. IsOpened ms total) }
+    ensures trace { GrewBy trace.old trace.new (opening_part plan.now) result }
 {
     let (zero, others) = openings_at_once(
         rt,
@@ -147,6 +196,6 @@ pub(crate) fn opening_round<R: Threads + Sync, S: Shelf + Send, W: Wire>(
         &mut shelves.two,
     );
     let words = all_three(zero, others)?;
-    let total = open_words(wire, words)?;
+    let total = opened(plan, shelves, wire, trace, words)?;
     Ok(total)
 }

@@ -13,8 +13,8 @@ use table_schema::Aggregate;
 use waldo_table::{AgreeFault, Answered, AskFault, Drawn, Pass, Prepared, Table, finish};
 use wire_line::RecordWire;
 
-// What a pass is told: by an agreement, by an ask that took so many messages, and by a look at each server.
-type Told = (
+// What a pass learns: by an agreement, by an ask and its number of messages, and by a look at each server.
+type Learned = (
     Result<u64, AgreeFault>,
     Result<Answered, AskFault>,
     usize,
@@ -38,7 +38,7 @@ fn tell<R: Abort + Threads + Wait + Sync>(
     alloc: Global,
     table: &Table,
     pass: &mut Pass,
-) -> Told
+) -> Learned
     requires { IsOf table.now pass.old }
     ensures { IsOf table.now pass.new }
 {
@@ -53,11 +53,11 @@ fn tell<R: Abort + Threads + Wait + Sync>(
     (rows, asked, wire.messages().len(), looks)
 }
 
-// Where a draw was placed before its last placing, the place of the other pass's row, and what was told.
-type Lag = ([bool; 3], Option<u64>, [Told; 3]);
+// Where a draw was placed before its last placing, the place of the other pass's row, and what was learned.
+type Lag = ([bool; 3], Option<u64>, [Learned; 3]);
 
-// Places the draw at servers 0 and 1, and tells a pass that was told nothing before. Then appends a row through the other pass, and
-// tells that. Then places the draw at server 2, and tells the other pass again.
+// Places the draw at servers 0 and 1, and lets a pass learn that had learned nothing before. Then appends a row through the other pass,
+// and lets that one learn. Then places the draw at server 2, and lets the other pass learn again.
 fn place_late<R: Abort + Threads + Wait + Sync>(
     rt: &R,
     alloc: Global,
@@ -110,7 +110,7 @@ fn draw_and_lag<R: Abort + Threads + Wait + Sync>(
     Ok(Some((finish(drawn), [floor, pass.floor()], lag)))
 }
 
-// The same on a table of its own.
+// Draws and lags on a table of its own.
 fn lag_anew<R: Abort + Threads + Wait + Sync>(
     rt: &R,
     alloc: Global,
@@ -134,12 +134,93 @@ fn a_server_that_lags(rt: HostRuntime) -> Result<(), Memory> {
         had: 0,
         floor: 2,
     };
-    let told = [
+    let learned = [
         (Ok(0), Ok(Answered { rows: 0, total: 0 }), 15, [1, 1, 0]),
         (Err(again), Err(ask_again), 0, [2, 2, 0]),
         (Ok(2), Ok(Answered { rows: 2, total: 1 }), 15, [2, 2, 2]),
     ];
-    let lag = ([true, true, false], Some(1), told);
+    let lag = ([true, true, false], Some(1), learned);
     assert_eq!(rt; lag_anew(&rt, rt.alloc())?, Some((0, [0, 1], lag)));
+    Ok(())
+}
+
+// The place of the other pass's row, and what that pass was told before the draw was placed and after.
+type Rested = (Option<u64>, [Told; 2]);
+
+// A draw rests while the other pass appends a row and is told; then the draw is placed at all servers, and it is told again.
+fn place_at_last<R: Abort + Threads + Wait + Sync>(
+    rt: &R,
+    alloc: Global,
+    table: &Table,
+    pass: &mut Pass,
+    drawn: &mut Drawn,
+    other: &mut Pass,
+    prepared: Prepared,
+) -> Rested
+    requires pass { IsOf table.now pass.old }
+    requires table { drawn.old.table ≡ table.now }
+    requires entry { slice_get pass.old.sight.order drawn.old.place ≡ Some drawn.old.entry }
+    requires other { IsOf table.now other.old }
+    requires prepared { prepared.widths ≡ table.now.widths }
+    ensures pass { IsOf table.now pass.new }
+    ensures other { IsOf table.now other.new }
+    ensures done { is_done drawn.new ≡ true }
+{
+    let place = table.append(rt, other, prepared).ok();
+    let before = tell(rt, alloc, table, other);
+    table.place(rt, pass, drawn, 0);
+    table.place(rt, pass, drawn, 1);
+    table.place(rt, pass, drawn, 2);
+    let after = tell(rt, alloc, table, other);
+    (place, [before, after])
+}
+
+fn draw_and_rest<R: Abort + Threads + Wait + Sync>(
+    rt: &R,
+    alloc: Global,
+    table: &Table,
+    pass: &mut Pass,
+) -> Result<Option<(u64, Rested)>, Memory>
+    requires pass { IsOf table.now pass.old }
+    requires room { 1 ≤ pass.old.sight.room }
+{
+    let first = ready(rt, alloc, table, 3, 10)?;
+    let second = ready(rt, alloc, table, 3, 20)?;
+    let mut other = table.split_pass(pass, 1);
+    let Ok(mut drawn) = table.draw(pass, first) else {
+        return Ok(None);
+    };
+    let rested = place_at_last(rt, alloc, table, pass, &mut drawn, &mut other, second);
+    Ok(Some((finish(drawn), rested)))
+}
+
+// The same on a table of its own.
+fn rest_anew<R: Abort + Threads + Wait + Sync>(
+    rt: &R,
+    alloc: Global,
+) -> Result<Option<(u64, Rested)>, Memory> {
+    let (table, mut pass) = open(alloc, 2)?;
+    draw_and_rest(rt, alloc, &table, &mut pass)
+}
+
+// No server has place 0, so the first one already lacks it, and the looks find no first row anywhere. Once the draw is placed, both
+// rows are agreed on, and both have bucket 3.
+#[test]
+fn a_draw_that_rests(rt: HostRuntime) -> Result<(), Memory> {
+    let again = AgreeFault::Again {
+        server: 0,
+        had: 0,
+        floor: 2,
+    };
+    let ask_again = AskFault::Again {
+        server: 0,
+        had: 0,
+        floor: 2,
+    };
+    let told = [
+        (Err(again), Err(ask_again), 0, [0, 0, 0]),
+        (Ok(2), Ok(Answered { rows: 2, total: 2 }), 15, [2, 2, 2]),
+    ];
+    assert_eq!(rt; rest_anew(&rt, rt.alloc())?, Some((0, (Some(1), told))));
     Ok(())
 }

@@ -62,7 +62,7 @@ pub fn key<R: Abort>(
     Ok(keys.key())
 }
 
-// A table for so many rows.
+// A table for `capacity` rows.
 pub fn open(alloc: Global, capacity: u32) -> Result<(Table, Pass), Memory>
     ensures of { IfOk result (λ r. IsOf r.0 r.1) }
     ensures room { IfOk result (λ r. r.1.sight.room ≡ capacity) }

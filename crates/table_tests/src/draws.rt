@@ -62,7 +62,7 @@ fn draw_and_gather<R: Abort + Wait>(
     Ok((capacity, place, rooms, next, is_full))
 }
 
-// The same on a table of its own.
+// Draws and gathers on a table of its own.
 fn draw_anew<R: Abort + Wait>(rt: &R, alloc: Global) -> Result<Drew, Memory> {
     let (table, mut pass) = open(alloc, 2)?;
     draw_and_gather(rt, alloc, &table, &mut pass)

@@ -150,7 +150,7 @@ fn run_four<R: Abort + Threads + Wait + Sync>(
     );
 }
 
-// A job with a pass of its own, which has so many draws.
+// A job with a pass of its own, which has `room` draws.
 fn new_job(table: &Table, pass: &mut Pass, room: u64, work: Work) -> Job
     requires pass { IsOf table.now pass.old }
     requires room { room ≤ pass.old.sight.room }
@@ -222,7 +222,7 @@ struct Outcome {
     sum: Result<Answered, AskFault>,
 }
 
-// After a race the floor is told, and all rows are counted and summed.
+// After a race the floor is reported, and all rows are counted and summed.
 fn raced<R: Abort + Threads + Wait + Sync>(
     rt: &R,
     alloc: Global,
@@ -249,7 +249,7 @@ fn race_anew<R: Abort + Threads + Wait + Sync>(rt: &R, alloc: Global) -> Result<
     Ok(raced(rt, alloc, &table, &mut pass))
 }
 
-// Each of the six places is drawn once; no asker's number of rows falls or is above six; the gathered pass was told of all six rows,
+// Each of the six places is drawn once; no asker's number of rows falls or is above six; the gathered pass learned of all six rows,
 // and asks over them: three have bucket 3, with the values 1, 4 and 16.
 #[test]
 fn writers_and_askers_at_once(rt: HostRuntime) -> Result<(), Memory> {

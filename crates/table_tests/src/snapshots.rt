@@ -109,7 +109,7 @@ fn sum_thrice<R: Abort + Threads + Wait + Sync>(
     Ok((beside, after, all))
 }
 
-// The same on a table of its own.
+// Sums three times on a table of its own.
 fn sum_thrice_anew<R: Abort + Threads + Wait + Sync>(
     rt: &R,
     alloc: Global,
@@ -162,7 +162,7 @@ fn sum_over<R: Abort + Threads + Sync, W: Wire>(
     (answered, wire.altered())
 }
 
-// Over a wire that alters, and over one that doesn't; and the query's key.
+// Sums over a wire that alters, and over one that does not; and the query's key.
 fn sums_over<R: Abort + Threads + Wait + Sync>(
     rt: &R,
     alloc: Global,
@@ -179,7 +179,7 @@ fn sums_over<R: Abort + Threads + Wait + Sync>(
     Ok((altered, honest, key))
 }
 
-// The same on a table of its own.
+// Sums over both wires on a table of its own.
 fn sums_over_anew<R: Abort + Threads + Wait + Sync>(
     rt: &R,
     alloc: Global,

@@ -6,7 +6,7 @@ use waldo_words::{
     Amount, Command, Common, Queries, Schedule, ShiftWord, ShiftWords, Step, WordFault, read_words,
 };
 
-/// Words, and what is told of them: that they are read, the index of a bad word, or what is missing.
+/// Words, and what is answered to them: that they are read, the index of a bad word, or what is missing.
 type Case = (&'static str, u64, &'static str);
 
 const READ: &str = "read";
@@ -130,8 +130,8 @@ fn read(alloc: Global, text: &str) -> Result<Command, WordFault> {
     }
 }
 
-// Whether this is told of the words of a text.
-fn is_told(alloc: Global, text: &str, index: u64, what: &str) -> bool {
+// Whether this is answered to the words of a text.
+fn is_answered(alloc: Global, text: &str, index: u64, what: &str) -> bool {
     match read(alloc, text) {
         Ok(_command) => what == READ,
         Err(fault) => match fault {
@@ -145,10 +145,10 @@ fn is_told(alloc: Global, text: &str, index: u64, what: &str) -> bool {
 #[test]
 fn refusals(rt: HostRuntime) {
     for (text, index, what) in ORDER {
-        assert!(rt; is_told(rt.alloc(), text, index, what), "of {text}");
+        assert!(rt; is_answered(rt.alloc(), text, index, what), "of {text}");
     }
     for (text, index, what) in VALUES {
-        assert!(rt; is_told(rt.alloc(), text, index, what), "of {text}");
+        assert!(rt; is_answered(rt.alloc(), text, index, what), "of {text}");
     }
 }
 
@@ -279,7 +279,7 @@ fn own_options(rt: HostRuntime) -> Result<(), Fail> {
     Ok(())
 }
 
-// So many queries, and so many steps.
+// Words with `queries` queries and `steps` steps.
 fn long(alloc: Global, queries: u64, steps: u64) -> Result<Vec<String>, AllocError> {
     let mut words = words_of(alloc, "replay|host:2|--schedule")?;
     let mut schedule = String::from_str(alloc, "f0")?;

@@ -2,7 +2,6 @@ ghost use Rattle.std.specs.Prelude.{◌≡◌, ℕ, ◌+◌, ◌-◌, ◌<◌, �
 ghost use mathlib.Core.List.{IsPrefix};
 ghost use Rattle.list_facts.specs.Count.{longer, times};
 ghost use Rattle.ticket_place.specs.Sights.{Draws, IsSound};
-ghost use Rattle.wire_line.specs.Sights.{Sight};
 
 use crate::entry::Entry;
 use crate::rule::{Board, Brand};

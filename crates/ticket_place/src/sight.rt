@@ -1,6 +1,5 @@
 ghost use Rattle.std.specs.Prelude.{◌≡◌};
 ghost use Rattle.ticket_place.specs.Sights.{IsSound};
-ghost use Rattle.wire_line.specs.Sights.{Sight};
 
 use crate::known::Known;
 use atomic_table::Seat;

@@ -9,3 +9,4 @@ pub mod Honest
 pub mod Small
 pub mod Lengths
 pub mod Held
+pub mod Seeing

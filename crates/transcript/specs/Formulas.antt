@@ -24,7 +24,8 @@ bits_words z run view pieces j =
     let width = width_of z.widths column in
     listed z.rows (λ i.
     plus
-    (plus (dot_of (view.party0 run j) (row_of width i (pieces.first column))) (dot_of (view.party1 run j) (row_of width i (pieces.second column))))
+    (plus (dot_of (view.party0 run j) (row_of width i (pieces.first column)))
+    (dot_of (view.party1 run j) (row_of width i (pieces.second column))))
     (part_of view.own view.next (counter_of (count_of z) run (bits j) + i)))
 
 -- product j, a number a row: the local product of the server's pairs of the chain so far and of the bits of j, and a zero part
@@ -67,7 +68,7 @@ words_of z ending run seat (further e) =
 words_of z ending run seat opening =
     let held = step_before (count_of z) ending.further in ending.last run seat.view seat.pieces (seat.first held) (seat.second held)
 
--- a query with its seed over so many rows, of which the servers hold these pieces
+-- a query with its seed over `rows` rows, of which the servers hold these pieces
 abbrev pub setup_for : Query → Widths → Seed → ℕ → (ℕ → Pieces) → Setup
 setup_for query w seed rows pieces =
     let sizes : Sizes = record { rows = rows; widths = w; shape = shaped query } in record {

@@ -8,6 +8,7 @@ use Rattle.table_schema.specs.declared.widths.Widths.{Widths}
 use Rattle.table_schema.specs.Widths.{Holds}
 use Rattle.onehot_column.specs.Code.{word_of}
 use Rattle.query_plan.specs.declared.query.Query.{Query}
+use Rattle.query_plan.specs.KeyMessages.{message_length}
 use Rattle.query_plan.specs.Query.{shaped, Suits}
 use Rattle.query_plan.specs.Views.{AreKeys, View, key_from}
 use Rattle.replicated_share.specs.Share.{AreShares}
@@ -15,7 +16,10 @@ use Rattle.transcript.specs.Plain.{plain, passes}
 use Rattle.transcript.specs.Formulas.{total_ending}
 use Rattle.transcript.specs.Setup.{Setup, Sizes, Ending, column_of, count_of, with_pieces}
 use Rattle.transcript.specs.Steps.{Step, bits, product, further, opening, IsStep, chain_step, place_of}
+use Rattle.visit_trace.specs.Expected.{trace_of}
+use Rattle.visit_trace.specs.Seen.{lengths_at, seen_by}
 use Rattle.wire_line.specs.Messages.{IsHonest, message_at}
+use mathlib.Core.List.{IsPrefix}
 use Rattle.transcript.specs.Transcript.{IsPart, IsTranscript, opened_of, seat_of}
 use Rattle.prg_chacha.specs.declared.seed.Seed.{Seed}
 use Rattle.transcript.specs.Rows.{HoldRows, pieces_over}
@@ -76,6 +80,22 @@ LengthsAreSizes =
     → let m = message_at ms (place_of (count_of s.sizes) s.ending.further run step k) in
     (length m.sent ≡ step_length s.sizes step) × (length m.received ≡ step_length s.sizes step)
 
+-- the key words of each server are as many as the sizes ask for
+abbrev pub KeysAreLong : Setup → Type 0
+KeysAreLong s = (k : ℕ) → k < 3 → length (s.keys k) ≡ message_length s.sizes.shape s.sizes.widths.bits
+
+-- the lengths of all messages that a server sends or receives, in order, are those of the trace of the sizes, whatever was altered
+abbrev pub LengthsAreTrace : Type 0
+LengthsAreTrace =
+    (s : Setup) (ms : List Message) (k : ℕ) → k < 3 → s.ending ≡ total_ending s.sizes → 0 < count_of s.sizes → KeysAreLong s → IsTranscript s ms
+    → lengths_at k ms ≡ (seen_by (trace_of s.sizes) k).lengths
+
+-- those of the first messages are a prefix of them
+abbrev pub LengthsBeginTrace : Type 0
+LengthsBeginTrace =
+    (s : Setup) (ms : List Message) (k : ℕ) → k < 3 → s.ending ≡ total_ending s.sizes → 0 < count_of s.sizes → KeysAreLong s → IsPart s ms
+    → IsPrefix (lengths_at k ms) (seen_by (trace_of s.sizes) k).lengths
+
 -- what the servers hold of rows that were split by seeds holds these rows, whatever the seeds
 abbrev pub PiecesHold : Type 0
 PiecesHold = (w : Widths) (entries : List (Row × Seed)) → All (λ (entry : Row × Seed). Holds w entry.0) entries
@@ -109,5 +129,6 @@ TotalSeesColumns = (z : Sizes) → SeesColumns z.widths.columns (total_ending z)
 -- of the pieces just the columns that there are count for the messages
 abbrev pub ColumnsSuffice : Type 0
 ColumnsSuffice =
-    (s : Setup) (pieces : ℕ → Pieces) (ms : List Message) → HasColumns s.sizes → SeesColumns s.sizes.widths.columns s.ending → SamePieces s.sizes.widths.columns s.pieces pieces
+    (s : Setup) (pieces : ℕ → Pieces) (ms : List Message) → HasColumns s.sizes → SeesColumns s.sizes.widths.columns s.ending
+    → SamePieces s.sizes.widths.columns s.pieces pieces
     → IsPart s ms → IsPart (with_pieces s pieces) ms

@@ -61,11 +61,16 @@ abbrev pub chain_sum : Aggregate → List ℕ → List ℕ → ℕ
 chain_sum Count chain values = total_of chain
 chain_sum Sum chain values = dot_of chain values
 
+-- the sum of the rows' shifted chains of a run, and the shift of its opening
+abbrev pub shifted_sum : Setup → Query → (ℕ → ℕ) → List Row → List Message → ℕ → ℕ → ℕ
+shifted_sum s query weights rows ms run server =
+    let shift = shift_of s ms server run in
+    let chain = listed (length rows) (shifted_chain (row_bit query weights rows) shift (query.count - 1)) in
+    plus (chain_sum query.aggregate chain (map (λ (row : Row). word_of row.value) rows)) (shift opening 0)
+
 -- where all altered messages have one server as an end, a run opens the sum of the shifted chains and the shift of the opening
 abbrev pub ShiftedOpen : Type 0
 ShiftedOpen =
     (s : Setup) (query : Query) (weights : ℕ → ℕ → ℕ) (rows : List Row) (ms : List Message) (run server : ℕ) → run < 2 → server < 3
     → Asks s query weights rows → s.ending ≡ total_ending s.sizes → IsTranscript s ms → OneAltered server ms
-    → let shift = shift_of s ms server run in
-    let chain = listed (length rows) (shifted_chain (row_bit query (weights run) rows) shift (query.count - 1)) in
-    opened_of s ms run ≡ plus (chain_sum query.aggregate chain (map (λ (row : Row). word_of row.value) rows)) (shift opening 0)
+    → opened_of s ms run ≡ shifted_sum s query (weights run) rows ms run server

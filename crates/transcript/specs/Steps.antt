@@ -11,7 +11,7 @@ pub data Step : Type 0 where
   further : ℕ → Step
   opening : Step
 
--- the steps of a run with so many predicates and so many further steps
+-- the steps of a run with `count` predicates and `more` further steps
 abbrev pub IsStep : ℕ → ℕ → Step → Type 0
 IsStep count more (bits j) = j < count
 IsStep count more (product j) = (0 < j) × (j < count)

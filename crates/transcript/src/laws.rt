@@ -1,6 +1,6 @@
 //! Laws of the definitions, as functions without effect: the clause of each is the law.
 
-ghost use Rattle.transcript.specs.Laws.{ColumnsSuffice, ProductsShared, TotalSeesColumns, RunsOpen, PairOpens, PiecesHold, PlainIsSmall, LengthsAreSizes};
+ghost use Rattle.transcript.specs.Laws.{ColumnsSuffice, ProductsShared, TotalSeesColumns, RunsOpen, PairOpens, PiecesHold, PlainIsSmall, LengthsAreSizes, LengthsAreTrace, LengthsBeginTrace};
 ghost use Rattle.transcript.specs.Shifts.{ShiftedOpen};
 
 /// Where nothing was altered and the servers hold rows, they share the products of the bits, however the run ends.
@@ -18,7 +18,7 @@ pub fn runs_open()
     ensures { RunsOpen }
 {}
 
-/// The same for both runs, where the weights of run 0 are 1: the total is the plain answer, and the weighted total the key
+/// Both runs open what is plain, where the weights of run 0 are 1: the total is the plain answer, and the weighted total the key
 /// times it.
 pub fn pair_opens()
     ensures { PairOpens }
@@ -38,6 +38,17 @@ pub fn plain_is_small()
 /// How many words a message of a step has rests on the number of rows alone, whatever was altered.
 pub fn lengths_are_sizes()
     ensures { LengthsAreSizes }
+{}
+
+/// Which lengths a server sees, of the messages of a query that it sends or receives, rests on the sizes alone, whatever was
+/// altered: they are those of the trace.
+pub fn lengths_are_trace()
+    ensures { LengthsAreTrace }
+{}
+
+/// Of the first messages of a query a server sees the first lengths of the trace.
+pub fn lengths_begin_trace()
+    ensures { LengthsBeginTrace }
 {}
 
 /// Rows that were split among the servers by seeds are held by them, whatever the seeds.

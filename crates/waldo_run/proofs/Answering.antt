@@ -12,10 +12,11 @@ use Rattle.schedule_play.specs.declared.play.PlayFault.{PlayFault}
 use Rattle.schedule_play.specs.declared.play.PlayFault.TheVariants as faults
 use Rattle.schedule_play.specs.declared.play.Played.{Played}
 use Rattle.waldo_words.specs.declared.command.Command.{Command}
-use Rattle.waldo_run.specs.Replies.{IsReplyOf, Reply, checked_answer, ended}
+use Rattle.waldo_run.specs.Replies.{IsReplyOf, Reply, checked_answer, ended, reported, rows_reply}
 use Rattle.waldo_run.specs.Run.{AskedOver, BegunOver}
 use Rattle.waldo_run.specs.Tasks.{AreWidthsIn, task_over}
 use Rattle.waldo_run.proofs.Begun.{all_begun}
+use Rattle.waldo_run.proofs.Tracing.{reported_status}
 
 -- the steps that were done are the first ones
 broken : (w : Widths) (task : Task) (history : List Done) (r : Result Played PlayFault) → Ended w task history r → HasBroken w task history
@@ -59,9 +60,15 @@ replied w task history unaltered (Err (faults.NotAllowed t)) e accepted reply is
 replied w task history unaltered (Err faults.Memory) e accepted reply is = absurd is
 
 pub answered : (command : Command) (w : Widths) (rows : List Row) (carried : List Done → Type 0) (unaltered : ℕ → Type 0) (r : Result Played PlayFault) → AreWidthsIn command w
-    → IsSetting w (task_over command rows).setting → (p : Plays w (task_over command rows) carried unaltered r) → (result : Result Reply Memory) → IfOk result (IsReplyOf r)
-    → IfOk result (λ (reply : Reply). AskedOver unaltered command p.history rows × (reply ≡ checked_answer p.history (task_over command rows)) × (((actor : ℕ) → unaltered actor) → reply.status ≢ 7))
-answered command w rows carried unaltered r of legal p (Err memory) is = tt
-answered command w rows carried unaltered r of legal p (Ok reply) is =
-    let said = replied w (task_over command rows) p.history unaltered r p.ended p.accepted reply is in
-    (record { widths = w; of = of; legal = legal; done = said.done; honest = p.honest; plain = p.plain }, said.is, said.accepted)
+    → IsSetting w (task_over command rows).setting → (p : Plays w (task_over command rows) carried unaltered r) → (first : Reply) → IsReplyOf r first
+    → (result : Result Reply Memory) → IfOk result (λ (reply : Reply). reply ≡ reported command rows first)
+    → IfOk result (λ (reply : Reply). AskedOver unaltered command p.history rows × (reply ≡ rows_reply (checked_answer p.history) command rows)
+    × (((actor : ℕ) → unaltered actor) → reply.status ≢ 7))
+answered command w rows carried unaltered r of legal p first from (Err memory) is = tt
+answered command w rows carried unaltered r of legal p first from (Ok reply) is =
+    let said = replied w (task_over command rows) p.history unaltered r p.ended p.accepted first from in
+    let status : reply.status ≡ first.status = ap (λ (x : Reply). x.status) is ∙ reported_status command rows first in (
+      record { widths = w; of = of; legal = legal; done = said.done; honest = p.honest; plain = p.plain },
+      is ∙ ap (reported command rows) said.is,
+      λ still seven. said.accepted still (sym status ∙ seven),
+    )

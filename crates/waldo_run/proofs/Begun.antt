@@ -19,7 +19,7 @@ use Rattle.waldo_words.specs.declared.command.Command.{Command}
 use Rattle.waldo_words.specs.declared.faults.WordFault.{WordFault}
 use Rattle.waldo_words.specs.declared.faults.WordFault.TheVariants as faults
 use Rattle.waldo_words.specs.declared.schedule.Step.{Step}
-use Rattle.waldo_run.specs.Replies.{Reply, Suits, checked_answer, refusal, reply_over, row_refusal, single, unread}
+use Rattle.waldo_run.specs.Replies.{Reply, Suits, checked_answer, refusal, reply_over, row_refusal, rows_reply, single, unread}
 use Rattle.waldo_run.specs.Run.{Answers, Asked, AskedIn, AskedOver, Begun, BegunAt, BegunIn, BegunOver, Breaks, Replies}
 use Rattle.waldo_run.specs.Tasks.{AreWidthsIn, common_in, reads_input, rows_in, rows_made, task_over}
 use Rattle.fault_count.specs.Streams.{Change}
@@ -62,7 +62,7 @@ none_answers command w of rows carried unaltered none (Ok reply) err = absurd (s
 -- rows
 pub rows_answers : (command : Command) (rows : List Row) (r : Result (List Row) RowFault) (carried : List Done → Type 0) (unaltered : ℕ → Type 0) (history : List Done)
     → r ≡ Ok rows → carried history → (result : Result Reply Memory) → OnErr result (BegunOver command history rows)
-    → IfOk result (λ (reply : Reply). AskedOver unaltered command history rows × (reply ≡ checked_answer history (task_over command rows)) × (((actor : ℕ) → unaltered actor) → reply.status ≢ 7))
+    → IfOk result (λ (reply : Reply). AskedOver unaltered command history rows × (reply ≡ rows_reply (checked_answer history) command rows) × (((actor : ℕ) → unaltered actor) → reply.status ≢ 7))
     → Answers command r carried unaltered result
 rows_answers command rows r carried unaltered history e went (Err memory) begun said =
     record { history = history; sent = went; begun = subst (BegunIn command history) (sym e) begun; asked = tt; is = tt; accepted = tt }

@@ -14,7 +14,7 @@ use Rattle.schedule_play.specs.Tasks.{IsSetting, Setting, asking}
 use Rattle.waldo_words.specs.declared.command.Command.{Command}
 use Rattle.waldo_words.specs.declared.command.Command.TheVariants as commands
 use Rattle.waldo_words.specs.declared.faults.WordFault.{WordFault}
-use Rattle.waldo_run.specs.Replies.{checked_answer, ended, plain_answer, reply_over, reply_to}
+use Rattle.waldo_run.specs.Replies.{checked_answer, ended, plain_answer, reply_over, reply_to, reported}
 use Rattle.waldo_run.specs.Run.{Asked, AskedIn}
 use Rattle.waldo_run.specs.Tasks.{common_in, rows_in, rows_made, setting_of, task_over}
 
@@ -45,8 +45,9 @@ over_rows : PlainlyPlayed → AskedPlainly → (unaltered : ℕ → Type 0) → 
 over_rows same law unaltered still command history (Err fault) asked = refl
 over_rows same law unaltered still command history (Ok rows) asked =
     let task = task_over command rows in
-    ap ended (same asked.widths task history asked.done (all_honest unaltered history still asked.honest) asked.plain)
-    ∙ task_plain law command rows asked.widths asked.legal
+    ap (reported command rows)
+    (ap ended (same asked.widths task history asked.done (all_honest unaltered history still asked.honest) asked.plain)
+    ∙ task_plain law command rows asked.widths asked.legal)
 
 pub plain_reply_to : PlainlyPlayed → AskedPlainly → (unaltered : ℕ → Type 0) → ((actor : ℕ) → unaltered actor) → (command : Result Command WordFault) (history : List Done) (reading : Reading)
     → Asked unaltered command history reading → reply_to (checked_answer history) command reading ≡ reply_to plain_answer command reading

@@ -26,6 +26,10 @@ module _ (w v : Widths) (rows : List Row) (seen : Setting) (carried : List Done 
       → Plays v (asking seen) carried unaltered r → Plays w (task_over command rows) carried unaltered r
   ask_plays command common is e p = over command (commands.Ask common) (asking seen) is (ap asking e) p
 
+  pub trace_plays : (command : Command) (common : Common) → command ≡ commands.Trace common → seen ≡ setting_of common rows
+      → Plays v (asking seen) carried unaltered r → Plays w (task_over command rows) carried unaltered r
+  trace_plays command common is e p = over command (commands.Trace common) (asking seen) is (ap asking e) p
+
   pub make_plays : (command : Command) (common : Common) (number count : ℕ) → command ≡ commands.Make common number count → seen ≡ setting_of common rows
       → Plays v (asking seen) carried unaltered r → Plays w (task_over command rows) carried unaltered r
   make_plays command common number count is e p = over command (commands.Make common number count) (asking seen) is (ap asking e) p

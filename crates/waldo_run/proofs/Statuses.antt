@@ -20,7 +20,8 @@ use Rattle.waldo_run.specs.Replies.{Answering, IsRefused, Reply, Suits, after_fa
 use Rattle.waldo_run.specs.Run.{Asked, AskedIn, HasSchedule, Puts, Refuses, RefusesInput, Replies, Runs, plain_reply}
 use Rattle.waldo_run.specs.Tasks.{common_in, rows_in, rows_made, setting_of, task_over}
 use Rattle.waldo_run.proofs.Plain.{plain_reply_to}
-use Rattle.waldo_run.proofs.Told.{long_told, over_told, whole_told}
+use Rattle.waldo_run.proofs.Reported.{long_reported, over_reported, whole_reported}
+use Rattle.waldo_run.proofs.Tracing.{reported_status}
 use Rattle.fault_count.specs.Streams.{Change}
 
 kept : (n v : ℕ) → v ≢ 4 → v ≡ after_failed_put n → v ≡ n
@@ -70,7 +71,9 @@ five_status scheduled refused r = record { two = λ e. absurd (omega (arith, e))
 
 rows_status : AskedInOrder → (unaltered : ℕ → Type 0) (command : Command) (history : List Done) (rows : Result (List Row) RowFault) → AskedIn unaltered command history rows
     → OfRows (HasSchedule (Ok command)) (IsRefused rows) (reply_over (checked_answer history) command rows).status
-rows_status order unaltered command history (Ok rows) asked = task_status order ⊥ command history rows asked.widths asked.legal
+rows_status order unaltered command history (Ok rows) asked =
+    subst (OfRows (HasSchedule (Ok command)) ⊥) (sym (reported_status command rows (checked_answer history (task_over command rows))))
+    (task_status order ⊥ command history rows asked.widths asked.legal)
 rows_status order unaltered command history (Err row.Header) asked = five_status _ _ (λ e. cc)
 rows_status order unaltered command history (Err (row.BadRecord number why)) asked = five_status _ _ (λ e. cc)
 rows_status order unaltered command history (Err (row.TooMany capacity)) asked = five_status _ _ (λ e. cc)
@@ -111,7 +114,7 @@ record Says (command : Result Command WordFault) (reading : Reading) (status : �
   two : status ≡ 2 → IsErr command ⊎ HasSchedule command
   three : status ≡ 3 → reading ≡ Broken
   four : status ≢ 4
-  five : status ≡ 5 → (source : Change) (told : List ℕ) → Reads most_bytes reading source → source.old ≡ Some told → Refuses command told
+  five : status ≡ 5 → (source : Change) (reported : List ℕ) → Reads most_bytes reading source → source.old ≡ Some reported → Refuses command reported
 
 refused_says : (fault : WordFault) (reading : Reading) (status : ℕ) → (status ≡ 2) ⊎ (status ≡ 6) → Says (Err fault) reading status
 refused_says fault reading status which = record {
@@ -121,19 +124,19 @@ refused_says fault reading status which = record {
   five = λ e. absurd (elim which [ inl p ↦ omega (arith, e, p) | inr p ↦ omega (arith, e, p) ]);
 }
 
-faulty_told : (command : Command) (reading : Reading) (source : Change) (told : List ℕ)
-    → Reads most_bytes reading source → Faulty command reading → source.old ≡ Some told → Refuses (Ok command) told
-faulty_told command Untouched source told reads f e = absurd f
-faulty_told command (Whole bytes) source told reads f e = inr (subst (λ bs. RefusesInput command bs) (whole_told source.old source.new bytes told reads.1 reads.2 e) f)
-faulty_told command Long source told reads f e = inl (omega (arith, long_told source.old source.new reads.0 told reads.2 e, reads.1))
-faulty_told command Broken source told reads f e = absurd f
+faulty_reported : (command : Command) (reading : Reading) (source : Change) (reported : List ℕ)
+    → Reads most_bytes reading source → Faulty command reading → source.old ≡ Some reported → Refuses (Ok command) reported
+faulty_reported command Untouched source reported reads f e = absurd f
+faulty_reported command (Whole bytes) source reported reads f e = inr (subst (λ bs. RefusesInput command bs) (whole_reported source.old source.new bytes reported reads.1 reads.2 e) f)
+faulty_reported command Long source reported reads f e = inl (omega (arith, long_reported source.old source.new reads.0 reported reads.2 e, reads.1))
+faulty_reported command Broken source reported reads f e = absurd f
 
 says : AskedInOrder → (unaltered : ℕ → Type 0) (command : Result Command WordFault) (history : List Done) (reading : Reading) → Suits command reading → Asked unaltered command history reading
     → Says command reading (reply_to (checked_answer history) command reading).status
 says order unaltered (Err fault) history reading suits asked = refused_says fault reading _ (refusal_status (checked_answer history) fault _ refl)
 says order unaltered (Ok command) history reading suits asked =
     let k = known order unaltered command history reading asked in
-    record { two = λ e. inr (k.two e); three = k.three; four = k.four; five = λ e source told reads is. faulty_told command reading source told reads (k.five e) is }
+    record { two = λ e. inr (k.two e); three = k.three; four = k.four; five = λ e source reported reads is. faulty_reported command reading source reported reads (k.five e) is }
 
 module _ (order : AskedInOrder) (command : Result Command WordFault) (source sink : Change) (carried : List Done → Type 0) (unaltered : ℕ → Type 0) (status : ℕ)
     (run : Runs command source carried unaltered sink status) where
@@ -155,8 +158,8 @@ module _ (order : AskedInOrder) (command : Result Command WordFault) (source sin
   pub write_fault_of : status ≡ 4 → Rose sink.before sink.now
   write_fault_of e = elim run.puts [ inl p ↦ absurd (here.four (sym p.0 ∙ e)) | inr p ↦ p.2 ]
 
-  pub refuses_of : status ≡ 5 → (told : List ℕ) → source.old ≡ Some told → Refuses command told
-  refuses_of e told is = here.five (own (λ four. omega (arith, e, four)) ∙ e) source told run.replies.reads is
+  pub refuses_of : status ≡ 5 → (reported : List ℕ) → source.old ≡ Some reported → Refuses command reported
+  refuses_of e reported is = here.five (own (λ four. omega (arith, e, four)) ∙ e) source reported run.replies.reads is
 
   pub seven_of : status ≡ 7 → ((actor : ℕ) → unaltered actor) → ⊥
   seven_of e still = run.replies.accepted still (own (λ four. omega (arith, e, four)) ∙ e)
@@ -173,10 +176,10 @@ runs same law command source sink carried unaltered status reply r puts = record
 
 pub plain_of : (command : Result Command WordFault) (source sink : Change) (carried : List Done → Type 0) (unaltered : ℕ → Type 0) (status : ℕ)
     → Runs command source carried unaltered sink status → (Rose source.before source.now → ⊥) → ((actor : ℕ) → unaltered actor)
-    → (told : List ℕ) → source.old ≡ Some told → Puts (plain_reply command told) sink status
-plain_of command source sink carried unaltered status run sure still told e =
+    → (reported : List ℕ) → source.old ≡ Some reported → Puts (plain_reply command reported) sink status
+plain_of command source sink carried unaltered status run sure still reported e =
     let r = run.replies in
-    subst (λ reply. Puts reply sink status) (run.plain still ∙ over_told plain_answer command r.reading source told r.suits r.reads sure e) run.puts
+    subst (λ reply. Puts reply sink status) (run.plain still ∙ over_reported plain_answer command r.reading source reported r.suits r.reads sure e) run.puts
 
 pub if_some : (o : Option (List ℕ)) (P : List ℕ → Type 0) → ((x : List ℕ) → o ≡ Some x → P x) → IfSome o P
 if_some None P f = tt

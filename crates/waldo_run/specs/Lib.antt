@@ -3,4 +3,5 @@ pub mod Races
 pub mod Replies
 pub mod Run
 pub mod Tasks
+pub mod Traces
 pub mod Words

@@ -1,5 +1,7 @@
 -- The reply to each command and each way in which the input was met.
-use Rattle.std.specs.Prelude.{◌≡◌, ◌≢◌, ℕ, zero, suc, if◌then◌else◌, MatchBool, Result, Ok, Err, List, [], ◌∷◌}
+use Rattle.std.specs.Prelude.{◌≡◌, ◌≢◌, ℕ, zero, suc, if◌then◌else◌, MatchBool, Result, Ok, Err, List, [], ◌∷◌, length, map}
+use Rattle.query_plan.specs.Query.{shaped}
+use Rattle.query_plan.specs.declared.query.Query.{Query}
 use Rattle.row_source.specs.Input.{Reading}
 use Rattle.row_source.specs.Input.Reading.{Untouched, Whole, Long, Broken}
 use Rattle.row_source.specs.declared.faults.RowFault.{RowFault}
@@ -19,9 +21,11 @@ use Rattle.schedule_play.specs.declared.play.Played.{Played}
 use Rattle.schedule_play.specs.declared.style.Style.{Style}
 use Rattle.schedule_play.specs.declared.style.Style.TheVariants.{Queries, Rounds}
 use Rattle.waldo_words.specs.declared.command.Command.{Command}
+use Rattle.waldo_words.specs.declared.command.Command.TheVariants as commands
 use Rattle.waldo_words.specs.declared.faults.WordFault.{WordFault}
 use Rattle.waldo_words.specs.declared.faults.WordFault.TheVariants as words
-use Rattle.waldo_run.specs.Tasks.{common_in, reads_input, rows_in, rows_made, task_over}
+use Rattle.waldo_run.specs.Tasks.{bits_of, common_in, reads_input, rows_in, rows_made, task_over}
+use Rattle.waldo_run.specs.Traces.{noted_over, traced}
 
 -- a status and a report
 pub record Reply : Type 0 where
@@ -81,10 +85,21 @@ plain_in Rounds task = ended (played (plainly task.setting) task)
 abbrev pub plain_answer : Answering
 plain_answer task = plain_in task.style task
 
--- the reply of a command to its rows, or to the first fault of its input
+-- the reply to a command's steps, as the command reports it: `trace` has what the servers saw in place of the answers
+abbrev pub reported : Command → List Row → Reply → Reply
+reported (commands.Trace common) rows reply =
+    let seen = map (λ (q : Query). noted_over (bits_of common) (length rows) (shaped q)) common.queries in
+    record { status = reply.status; report = traced 0 seen reply.report }
+reported command rows reply = reply
+
+-- the reply of a command to its rows
+abbrev pub rows_reply : Answering → Command → List Row → Reply
+rows_reply answer command rows = reported command rows (answer (task_over command rows))
+
+-- the same, or the reply to the first fault of its input
 abbrev pub reply_over : Answering → Command → Result (List Row) RowFault → Reply
 reply_over answer command (Err fault) = row_refusal fault
-reply_over answer command (Ok rows) = answer (task_over command rows)
+reply_over answer command (Ok rows) = rows_reply answer command rows
 
 -- The reply to the words, over what reading gave, by how a task is answered. The order of refusals is the order of these cases.
 abbrev pub reply_to : Answering → Result Command WordFault → Reading → Reply

@@ -8,7 +8,7 @@ use Rattle.waldo_words.specs.declared.faults.WordFault.TheVariants.{Word}
 
 -- the name of a command that is not built yet
 abbrev pub is_unbuilt : List ℕ → Bool
-is_unbuilt word = bytes_eq word (codes "race") || bytes_eq word (codes "trace") || bytes_eq word (codes "tamper")
+is_unbuilt word = bytes_eq word (codes "race") || bytes_eq word (codes "tamper")
 
 -- a command that is built; another one is refused as an unknown command
 abbrev pub only_built : Result Command WordFault → Result Command WordFault
@@ -16,8 +16,8 @@ only_built (Err fault) = Err fault
 only_built (Ok (commands.Ask common)) = Ok (commands.Ask common)
 only_built (Ok (commands.Replay common schedule)) = Ok (commands.Replay common schedule)
 only_built (Ok (commands.Make common number rows)) = Ok (commands.Make common number rows)
+only_built (Ok (commands.Trace common)) = Ok (commands.Trace common)
 only_built (Ok (commands.Race common writers askers rounds)) = Err (Word 0)
-only_built (Ok (commands.Trace common)) = Err (Word 0)
 only_built (Ok (commands.Tamper common shifts)) = Err (Word 0)
 
 -- the words begin with the name of a command that is not built yet
@@ -34,6 +34,6 @@ abbrev pub IsBuilt : Command → Type 0
 IsBuilt (commands.Ask common) = ⊤
 IsBuilt (commands.Replay common schedule) = ⊤
 IsBuilt (commands.Make common number rows) = ⊤
+IsBuilt (commands.Trace common) = ⊤
 IsBuilt (commands.Race common writers askers rounds) = ⊥
-IsBuilt (commands.Trace common) = ⊥
 IsBuilt (commands.Tamper common shifts) = ⊥

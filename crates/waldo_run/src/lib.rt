@@ -22,9 +22,11 @@ mod made;
 mod race;
 mod refusals;
 mod reply;
+mod seen;
 mod still;
 mod task;
 mod top;
+mod trace;
 mod words;
 
 pub use race_play::{Gate, OpenGate, Places, Point, Written, ask_round, write_rows};

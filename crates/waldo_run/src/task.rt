@@ -5,13 +5,15 @@ ghost use Rattle.schedule_play.specs.Plays.{Plays, seen};
 ghost use Rattle.schedule_play.specs.Tasks.{IsSetting};
 ghost use Rattle.schedule_play.specs.Wires.{Carried, Unaltered};
 ghost use Rattle.table_schema.specs.Widths.{Holds};
-ghost use Rattle.waldo_run.specs.Replies.{IsReplyOf, checked_answer};
+ghost use Rattle.waldo_run.specs.Replies.{IsReplyOf, checked_answer, reported, rows_reply};
 ghost use Rattle.waldo_run.specs.Run.{AskedOver, BegunOver};
 ghost use Rattle.waldo_run.specs.Tasks.{AreWidthsIn, common_in, setting_of, task_over};
 ghost use Rattle.waldo_run.specs.Words.{IsBuilt};
 ghost use Rattle.waldo_words.specs.Legal.{IsLegal};
 
 use crate::reply::{Reply, single_line};
+use crate::seen::all_noted;
+use crate::trace::traced;
 use report_lines::Line;
 use ring128::Memory;
 use schedule_play::{PlayFault, Played, Setting, ask, replay};
@@ -67,6 +69,7 @@ fn play<R: Threads + Sync, W: Wire>(
     match command {
         Command::Ask(common) => ask(rt, alloc, &setting(common, widths, rows), wires),
         Command::Make { common, .. } => ask(rt, alloc, &setting(common, widths, rows), wires),
+        Command::Trace(common) => ask(rt, alloc, &setting(common, widths, rows), wires),
         Command::Replay { common, schedule } => {
             replay(
                 rt,
@@ -76,7 +79,35 @@ fn play<R: Threads + Sync, W: Wire>(
                 wires,
             )
         }
-        Command::Race { .. } | Command::Trace(_) | Command::Tamper { .. } => unreachable!(),
+        Command::Race { .. } | Command::Tamper { .. } => unreachable!(),
+    }
+}
+
+// The reply to a command's steps as the command reports it: `trace` has what servers see of each query in place of the answers.
+fn reported(
+    alloc: Global,
+    command: &Command,
+    widths: &Widths,
+    rows: &[Row],
+    reply: Reply,
+) -> Result<Reply, Memory>
+    requires legal { IsLegal command.now }
+    requires widths { AreWidthsIn command.now widths.now }
+    requires few { let common = common_in command.now in length rows.now ≤ common.capacity }
+    ensures { IfOk result (λ r. r ≡ reported command.now rows.now reply) }
+{
+    match command {
+        Command::Trace(common) => {
+            let bits = &widths.bits[..usize::from(widths.columns)];
+            let seen = all_noted(alloc, bits, rows.len() as u64, common.queries.as_slice())?;
+            let report = traced(alloc, &seen, reply.report())?;
+            Ok(Reply::new(reply.status(), report))
+        }
+        Command::Ask(_)
+        | Command::Replay { .. }
+        | Command::Race { .. }
+        | Command::Make { .. }
+        | Command::Tamper { .. } => Ok(reply),
     }
 }
 
@@ -100,9 +131,10 @@ pub(crate) fn answer_rows<R: Threads + Sync, W: Wire>(
     ensures asked { (history : List Done) × Carried W.sight wires.old.items wires.new.items history
         × OnErr result (BegunOver command.now history rows.now)
         × IfOk result (λ reply. AskedOver (Unaltered W.sight wires.old.items wires.new.items) command.now history rows.now
-        × (reply ≡ checked_answer history (task_over command.now rows.now))
+        × (reply ≡ rows_reply (checked_answer history) command.now rows.now)
         × (((actor : ℕ) → Unaltered W.sight wires.old.items wires.new.items actor) → reply.status ≢ 7)) }
 {
     let played = play(rt, alloc, command, widths, rows, wires);
-    reply_of(alloc, played)
+    let reply = reply_of(alloc, played)?;
+    reported(alloc, command, widths, rows, reply)
 }

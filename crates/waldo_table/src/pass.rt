@@ -2,7 +2,6 @@
 ghost use Rattle.std.specs.Prelude.{◌≡◌};
 ghost use Rattle.ticket_place.specs.Sights.{IsSound};
 ghost use Rattle.waldo_table.specs.Tables.{IsLegal as Legal};
-ghost use Rattle.wire_line.specs.Sights.{Sight};
 
 use crate::vault::Vault;
 use journal_lock::Seat;

@@ -18,7 +18,9 @@ message_after [] ns i = let e : 0 + i ≡ i = omega arith in rw e
 message_after (m ∷ ms) ns i = let e : suc (length ms) + i ≡ suc (length ms + i) = omega arith in rw e (message_after ms ns i)
 
 pub message_from : (ms ns : List Message) (i : ℕ) → length ms ≤ i → message_at (ms ++ ns) i ≡ message_at ns (i - length ms)
-message_from ms ns i h = let e : i ≡ length ms + (i - length ms) = omega arith in ap (message_at (ms ++ ns)) e ∙ message_after ms ns (i - length ms)
+message_from ms ns i h =
+    let e : i ≡ length ms + (i - length ms) = omega arith in
+    ap (message_at (ms ++ ns)) e ∙ message_after ms ns (i - length ms)
 
 pub honest_none : IsHonest []
 honest_none = λ k d h. absurd (omega arith)
@@ -40,7 +42,8 @@ honest_at ms i honest h = honest i (message_of Client Client [] []) h
 -- a list is honest where each message was received as it was sent
 pub honest_each : (ms : List Message) → ((i : ℕ) → i < length ms → (message_at ms i).received ≡ (message_at ms i).sent) → IsHonest ms
 honest_each [] each = honest_none
-honest_each (m ∷ ms) each = honest_both (m ∷ []) ms (honest_one m (each 0 (omega arith))) (honest_each ms (λ i h. each (suc i) (omega arith)))
+honest_each (m ∷ ms) each =
+    honest_both (m ∷ []) ms (honest_one m (each 0 (omega arith))) (honest_each ms (λ i h. each (suc i) (omega arith)))
 
 reported_both : (ms ns : List Message) (t : Option (List Message))
     → option_map (λ (old : List Message). old ++ ns) (option_map (λ (old : List Message). old ++ ms) t)
@@ -55,7 +58,12 @@ reported_none (Some old) = ap Some (sym (append-nil old))
 -- nothing was carried, and list and count stayed
 pub went_none : {S : Type 0} (sight : Sight S) (s t : S)
     → sight.reported t ≡ sight.reported s → sight.alterations t ≡ sight.alterations s → sight.passes s [] t → Went sight s [] t
-went_none sight s t list count p = record { listed = list ∙ reported_none (sight.reported s); grows = omega arith; honest = λ _. honest_none; passed = p }
+went_none sight s t list count p = record {
+  listed = list ∙ reported_none (sight.reported s);
+  grows = omega arith;
+  honest = λ _. honest_none;
+  passed = p;
+}
 
 -- these messages were carried, and then those
 pub went_both : {S : Type 0} (sight : Sight S) → BothPass sight

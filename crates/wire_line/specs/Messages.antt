@@ -17,7 +17,7 @@ message_at ms i = slice_index_or ms i (message_of Client Client [] [])
 abbrev pub IsHonest : List Message → Type 0
 IsHonest ms = All (λ (m : Message). m.received ≡ m.sent) ms
 
--- a wire carried these messages: they stand at the end of its list, where it reports one; its count didn't fall; unless it rose,
+-- a wire carried these messages: they stand at the end of its list, where it reports one; its count did not fall; unless it rose,
 -- each message was received as it was sent; and what its kind says besides holds of them
 pub record Went {S : Type 0} (sight : Sight S) (before : S) (ms : List Message) (after : S) : Type 0 where
   pub listed : sight.reported after ≡ option_map (λ (old : List Message). old ++ ms) (sight.reported before)

@@ -34,8 +34,10 @@ changes-append (k ∷ ks) ls [] ns e = absurd (omega arith)
 changes-append (k ∷ ks) ls (m ∷ ms) ns e = rw (changes-append ks ls ms ns (omega arith)) (omega arith)
 
 -- nothing was carried
-pub still_shifted : {S : Type 0} (sight : Sight S) (inner now : S) (shifts : List Shift) (messages messages_now : List Message) (changed : ℕ)
-    → sight.reported now ≡ sight.reported inner → sight.alterations now ≡ sight.alterations inner → sight.passes inner [] now → messages_now ≡ messages
+pub still_shifted : {S : Type 0} (sight : Sight S) (inner now : S) (shifts : List Shift)
+    (messages messages_now : List Message) (changed : ℕ)
+    → sight.reported now ≡ sight.reported inner → sight.alterations now ≡ sight.alterations inner
+    → sight.passes inner [] now → messages_now ≡ messages
     → PassesShifted sight (record { inner = inner; shifts = shifts; messages = messages; changed = changed }) []
     (record { inner = now; shifts = shifts; messages = messages_now; changed = changed })
 still_shifted sight inner now shifts messages messages_now changed list count p e = record {

@@ -27,7 +27,7 @@ impl Shift {
     }
 }
 
-/// A list of shifts. Those of one word add up; one whose message or word isn't there does nothing.
+/// A list of shifts. Those of one word add up; one whose message or word is not there does nothing.
 #[derive(Drop)]
 pub struct Shifts {
     items: Vec<Shift>,

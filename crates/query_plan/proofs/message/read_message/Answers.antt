@@ -1,12 +1,9 @@
-use Rattle.std.proofs.Common.{◌≡◌, ◌<◌, ℕ, ◌+◌, ◌-◌, List, All, length, take, drop, sym, ap, subst, ◌∙◌, arith, length-drop}
-use Rattle.std.proofs.lemmas.List.{take_all, get_or-take, length-take}
-use Rattle.std.proofs.lemmas.List.Elements.{All-from_get_or}
-use Rattle.table_schema.specs.declared.shapes.Part.{Part}
-use Rattle.table_schema.specs.declared.shapes.Shape.{Shape}
-use Rattle.table_schema.specs.declared.shapes.Kind.TheVariants.{Point}
+use Rattle.std.proofs.Common.{◌≡◌, ℕ, ◌+◌, ◌-◌, List, length, take, drop, ap, ◌∙◌, arith, length-drop}
+use Rattle.std.proofs.lemmas.List.{take_all}
 use Rattle.prg_chacha.specs.declared.seed.Seed.{Seed}
 use Rattle.query_plan.specs.declared.key.KeyPair.{KeyPair}
-use Rattle.query_plan.specs.KeyMessages.{HasColumn, KeysRead, pairs_read, part_at, parts_of}
+use Rattle.query_plan.specs.KeyMessages.{KeysRead, pairs_read, parts_of}
+use Rattle.query_plan.proofs.Parts.{all_there}
 use Rattle.query_plan.proofs.message.read_message.Goals as goal
 
 same_keys : (own next own' next' : Seed) (run0 run1 run0' run1' : List KeyPair) → own ≡ own' → next ≡ next' → run0 ≡ run0' → run1 ≡ run1'
@@ -16,15 +13,6 @@ same_keys own next own' next' run0 run1 run0' run1' a b c d = cc
 -- a slice to the end
 to_end : (ws : List ℕ) (n : ℕ) → take (length ws - n) (drop n ws) ≡ drop n ws
 to_end ws n = take_all (length ws - n) (drop n ws) (omega (arith, length-drop n ws))
-
--- each of the parts that there are is on a column
-all_there : (columns : ℕ) (shape : Shape) → ((j : ℕ) → j < shape.count → (part_at shape j).column < columns) → All (HasColumn columns) (parts_of shape)
-all_there columns shape there =
-    let none : Part = record { column = 0; kind = Point } in
-    All-from_get_or (HasColumn columns) (parts_of shape) none
-    (λ i h.
-    let within : i < shape.count = omega (arith, h, length-take shape.count shape.parts) in
-    subst (HasColumn columns) (sym (get_or-take shape.count shape.parts i none within)) (there i within))
 
 pub run_length-run-requires-clause-there : goal.run_length-run-requires-clause-there
 run_length-run-requires-clause-there c = all_there c.args.widths.now.columns c.args.shape.now c.requires.there

@@ -5,16 +5,20 @@ use Rattle.schedule_play.specs.Plays.{seen}
 use Rattle.schedule_play.specs.Tasks.{ask_steps}
 use Rattle.schedule_play.specs.declared.style.Style.TheVariants.{Queries}
 use Rattle.schedule_play.proofs.Keeping.{kept_first, kept_more, kept_stops}
-use Rattle.schedule_play.proofs.Loops.{length-parts, parts_all, parts_behind, parts_more}
+use Rattle.schedule_play.proofs.Loops.{first_have_wires, length-parts, parts_all, parts_behind, parts_more}
 use Rattle.schedule_play.proofs.play.ask_queries.Goals as goal
 
 pub loop-query-init : goal.loop-query-init
 loop-query-init g c = kept_first g.W.Wire.sight c.args.setting.now.widths (seen c.args.setting.now) Queries
-    g.met.W.Wire.none_passes c.args.progress.now c.args.wires.now.items c.requires.ready c.requires.wires
+    g.met.W.Wire.none_passes c.args.progress.now c.args.wires.now.items c.requires.ready
 
 pub steps-requires-clause-few : goal.steps-requires-clause-few
 steps-requires-clause-few g c κs within =
     omega (arith, c.requires.few, c.requires.queries, c.loop-query.invariant.done, length-parts ask_steps 4 0 c.loop-query.query (λ i. refl))
+
+pub steps-requires-clause-wires : goal.steps-requires-clause-wires
+steps-requires-clause-wires g c κs within =
+    first_have_wires (length c.loop-query.wires.items) c.loop-query.query (omega (arith, c.loop-query.invariant.same, c.requires.wires))
 
 pub returns-in_err-steps-clause-stops : goal.returns-in_err-steps-clause-stops
 returns-in_err-steps-clause-stops g c =

@@ -1,10 +1,13 @@
-use Rattle.std.proofs.Common.{refl}
+use Rattle.std.proofs.Common.{refl, arith}
 use Rattle.std.proofs.lemmas.Result.{err_from_is_err_and}
 use Rattle.schedule_play.specs.Plays.{seen}
 use Rattle.schedule_play.specs.Ready.{stage_of}
 use Rattle.schedule_play.specs.Tasks.{scheduled}
 use Rattle.schedule_play.proofs.Outcomes.{leads_plays, nothing_plays, stops_plays}
 use Rattle.schedule_play.proofs.play.replay.Goals as goal
+
+pub steps-requires-clause-wires : goal.steps-requires-clause-wires
+steps-requires-clause-wires g c κs within = λ k d lt small. omega (arith, c.requires.wires, small)
 
 pub returns-in_err-progress-clause-plays : goal.returns-in_err-progress-clause-plays
 returns-in_err-progress-clause-plays g c =

@@ -1,6 +1,7 @@
 use Rattle.std.proofs.Common.{[], ◌∷◌, refl, rules}
 use Rattle.wire_line.specs.Carried.{went_both}
 use Rattle.server_rounds.proofs.Messages.{going, group_one, group_two, group_three}
+use Rattle.server_rounds.proofs.Noting.{group_after_none, group_after_one, group_after_two, group_all}
 use Rattle.server_rounds.proofs.carry.carry_three.Goals as goal
 
 pub returns-in_err-two-clause-messages : goal.returns-in_err-two-clause-messages
@@ -45,3 +46,22 @@ returns-in_err-one-clause-messages g c =
     let w0 = rw (c.sender.ensures, c.receiver.ensures) at c.in_ok-zero.ensures.carried in
     let all = went_both g.W.Wire.sight g.met.W.Wire.both_pass _ _ _ (m0 ∷ []) [] w0 c.in_err-one.ensures.kept in
     (m0 ∷ [], all, group_one way x c.args.words.one c.args.words.two _ c.in_ok-zero.ensures.long, search rules)
+
+pub returns-in_err-zero-clause-trace : goal.returns-in_err-zero-clause-trace
+returns-in_err-zero-clause-trace g c =
+    group_after_none c.args.way _ _ _ _ _ _ c.from_residual.ensures.0 (rw (c.sender.ensures, c.receiver.ensures) at c.in_err-zero.ensures.trace)
+
+pub returns-in_err-one-clause-trace : goal.returns-in_err-one-clause-trace
+returns-in_err-one-clause-trace g c =
+    group_after_one c.args.way _ _ _ _ _ _ _ c.from_residual-in_err-one.ensures.0 (rw (c.sender.ensures, c.receiver.ensures) at c.in_ok-zero.ensures.trace)
+    (rw (c.sender-2.ensures, c.receiver-2.ensures) at c.in_err-one.ensures.trace)
+
+pub returns-in_err-two-clause-trace : goal.returns-in_err-two-clause-trace
+returns-in_err-two-clause-trace g c =
+    group_after_two c.args.way _ _ _ _ _ _ _ _ c.from_residual-in_err-two.ensures.0 (rw (c.sender.ensures, c.receiver.ensures) at c.in_ok-zero.ensures.trace)
+    (rw (c.sender-2.ensures, c.receiver-2.ensures) at c.in_ok-one.ensures.trace) (rw (c.sender-3.ensures, c.receiver-3.ensures) at c.in_err-two.ensures.trace)
+
+pub returns-clause-trace : goal.returns-clause-trace
+returns-clause-trace g c =
+    group_all c.args.way _ _ _ _ _ _ _ (rw (c.sender.ensures, c.receiver.ensures) at c.in_ok-zero.ensures.trace)
+    (rw (c.sender-2.ensures, c.receiver-2.ensures) at c.in_ok-one.ensures.trace) (rw (c.sender-3.ensures, c.receiver-3.ensures) at c.in_ok-two.ensures.trace)

@@ -1,20 +1,24 @@
-use Rattle.std.proofs.Common.{◌∙◌, sym, [], refl, rules}
+use Rattle.std.proofs.Common.{◌∙◌, sym, [], ◌∷◌, refl, rules}
 use Rattle.std.proofs.lemmas.Result.{IfOk-at_ok}
 use Rattle.wire_line.specs.Carried.{went_none}
 use Rattle.server_rounds.proofs.Messages.{group_none, regroup, three_same}
-use Rattle.server_rounds.proofs.Visiting.{all_made, all_stopped}
+use Rattle.server_rounds.proofs.Visiting.{all_made, all_stopped, visited_ok}
+use Rattle.transcript.specs.Setup.{column_of}
+use Rattle.server_rounds.specs.declared.servers.Servers.{Servers}
+use Rattle.visit_trace.specs.Growing.{by_stopped, prefix_none}
+use Rattle.server_rounds.proofs.Noting.{bits_noted, enough_all, grew_along, prefix_along, server_noted}
 use Rattle.server_rounds.proofs.rounds.bits_round.Goals as goal
 
 pub returns-in_err-words-clause-messages : goal.returns-in_err-words-clause-messages
 returns-in_err-words-clause-messages g c =
     ([], went_none g.W.Wire.sight _ _ refl refl (g.met.W.Wire.none_passes _), group_none _ _, search rules)
 
-pub reshare-requires-clause-one : goal.reshare-requires-clause-one
-reshare-requires-clause-one g c =
+pub reshare_noted-requires-clause-one : goal.reshare_noted-requires-clause-one
+reshare_noted-requires-clause-one g c =
     IfOk-at_ok _ c.in_ok-words.ensures.at1 c.bits_at_once-zero.ensures.one.long ∙ sym (IfOk-at_ok _ c.in_ok-words.ensures.at0 c.bits_at_once-zero.ensures.zero.long)
 
-pub reshare-requires-clause-two : goal.reshare-requires-clause-two
-reshare-requires-clause-two g c =
+pub reshare_noted-requires-clause-two : goal.reshare_noted-requires-clause-two
+reshare_noted-requires-clause-two g c =
     IfOk-at_ok _ c.in_ok-words.ensures.at2 c.bits_at_once-zero.ensures.two.long ∙ sym (IfOk-at_ok _ c.in_ok-words.ensures.at0 c.bits_at_once-zero.ensures.zero.long)
 
 pub returns-in_err-held-clause-messages : goal.returns-in_err-held-clause-messages
@@ -51,3 +55,74 @@ returns-clause-visits g c =
     let v = c.bits_at_once-zero.ensures in
     let w = c.in_ok-words.ensures in
     all_made g.S.Shelf.held g.S.Shelf.visited _ _ _ _ _ _ _ _ _ _ w.at0 w.at1 w.at2 v.zero.visits v.one.visits v.two.visits
+
+pub returns-in_err-words-clause-trace : goal.returns-in_err-words-clause-trace
+returns-in_err-words-clause-trace g c = by_stopped _ _ _ _ c.from_residual.ensures.0 (prefix_none _ _)
+
+pub reshare_noted-requires-clause-zero_seen : goal.reshare_noted-requires-clause-zero_seen
+reshare_noted-requires-clause-zero_seen g c =
+    let held = g.S.Shelf.held in
+    let visited = g.S.Shelf.visited in
+    let v = c.bits_at_once-zero.ensures.zero in
+    let column = column_of c.args.plan.now c.args.j in
+    let old = c.args.shelves.now.zero.items in
+    let new = c.bits_at_once-zero.new.zero.items in
+    enough_all held visited column old new v.same (visited_ok held visited (column ∷ []) old new _ _ c.in_ok-words.ensures.at0 v.visits)
+
+pub reshare_noted-requires-clause-one_seen : goal.reshare_noted-requires-clause-one_seen
+reshare_noted-requires-clause-one_seen g c =
+    let held = g.S.Shelf.held in
+    let visited = g.S.Shelf.visited in
+    let v = c.bits_at_once-zero.ensures.one in
+    let column = column_of c.args.plan.now c.args.j in
+    let old = c.args.shelves.now.one.items in
+    let new = c.bits_at_once-zero.new.one.items in
+    enough_all held visited column old new v.same (visited_ok held visited (column ∷ []) old new _ _ c.in_ok-words.ensures.at1 v.visits)
+
+pub reshare_noted-requires-clause-two_seen : goal.reshare_noted-requires-clause-two_seen
+reshare_noted-requires-clause-two_seen g c =
+    let held = g.S.Shelf.held in
+    let visited = g.S.Shelf.visited in
+    let v = c.bits_at_once-zero.ensures.two in
+    let column = column_of c.args.plan.now c.args.j in
+    let old = c.args.shelves.now.two.items in
+    let new = c.bits_at_once-zero.new.two.items in
+    enough_all held visited column old new v.same (visited_ok held visited (column ∷ []) old new _ _ c.in_ok-words.ensures.at2 v.visits)
+
+pub returns-in_err-held-clause-trace : goal.returns-in_err-held-clause-trace
+returns-in_err-held-clause-trace g c =
+    let held = g.S.Shelf.held in
+    let visited = g.S.Shelf.visited in
+    let z = c.args.plan.now in
+    let column = column_of z c.args.j in
+    let v = c.bits_at_once-zero.ensures in
+    let w = c.in_ok-words.ensures in
+    let s0 = server_noted held visited z.widths z.rows column c.args.shelves.now.zero.items c.bits_at_once-zero.new.zero.items c.requires.zero v.zero.same
+    (visited_ok held visited (column ∷ []) c.args.shelves.now.zero.items c.bits_at_once-zero.new.zero.items _ _ w.at0 v.zero.visits) in
+    let s1 = server_noted held visited z.widths z.rows column c.args.shelves.now.one.items c.bits_at_once-zero.new.one.items c.requires.one v.one.same
+    (visited_ok held visited (column ∷ []) c.args.shelves.now.one.items c.bits_at_once-zero.new.one.items _ _ w.at1 v.one.visits) in
+    let s2 = server_noted held visited z.widths z.rows column c.args.shelves.now.two.items c.bits_at_once-zero.new.two.items c.requires.two v.two.same
+    (visited_ok held visited (column ∷ []) c.args.shelves.now.two.items c.bits_at_once-zero.new.two.items _ _ w.at2 v.two.visits) in
+    let n = IfOk-at_ok _ w.at0 v.zero.long in
+    let after : Servers g.row.S.Denot = record { zero = c.bits_at_once-zero.new.zero; one = c.bits_at_once-zero.new.one; two = c.bits_at_once-zero.new.two } in
+    let same = bits_noted held visited z column _ after s0 s1 s2 n in
+    by_stopped _ _ _ _ c.from_residual-in_err-held.ensures.0 (prefix_along _ _ _ _ same c.in_err-held.ensures.trace)
+
+pub returns-clause-trace : goal.returns-clause-trace
+returns-clause-trace g c =
+    let held = g.S.Shelf.held in
+    let visited = g.S.Shelf.visited in
+    let z = c.args.plan.now in
+    let column = column_of z c.args.j in
+    let v = c.bits_at_once-zero.ensures in
+    let w = c.in_ok-words.ensures in
+    let s0 = server_noted held visited z.widths z.rows column c.args.shelves.now.zero.items c.bits_at_once-zero.new.zero.items c.requires.zero v.zero.same
+    (visited_ok held visited (column ∷ []) c.args.shelves.now.zero.items c.bits_at_once-zero.new.zero.items _ _ w.at0 v.zero.visits) in
+    let s1 = server_noted held visited z.widths z.rows column c.args.shelves.now.one.items c.bits_at_once-zero.new.one.items c.requires.one v.one.same
+    (visited_ok held visited (column ∷ []) c.args.shelves.now.one.items c.bits_at_once-zero.new.one.items _ _ w.at1 v.one.visits) in
+    let s2 = server_noted held visited z.widths z.rows column c.args.shelves.now.two.items c.bits_at_once-zero.new.two.items c.requires.two v.two.same
+    (visited_ok held visited (column ∷ []) c.args.shelves.now.two.items c.bits_at_once-zero.new.two.items _ _ w.at2 v.two.visits) in
+    let n = IfOk-at_ok _ w.at0 v.zero.long in
+    let after : Servers g.row.S.Denot = record { zero = c.bits_at_once-zero.new.zero; one = c.bits_at_once-zero.new.one; two = c.bits_at_once-zero.new.two } in
+    let same = bits_noted held visited z column _ after s0 s1 s2 n in
+    grew_along _ _ _ _ same c.in_ok-held.ensures.trace

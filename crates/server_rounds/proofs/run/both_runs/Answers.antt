@@ -8,7 +8,10 @@ use Rattle.server_rounds.specs.Groups.{by_server}
 use Rattle.server_rounds.specs.Plans.{read_for, sizes_for, views_of, words_for}
 use Rattle.server_rounds.specs.Shelves.{AreShelves, pieces_of, rows_of}
 use Rattle.server_rounds.specs.Visits.{run_columns}
+use Rattle.visit_trace.specs.Growing.{by_stopped}
+use Rattle.server_rounds.proofs.Noting.{query_after_keys, query_after_run, query_all, query_cut}
 use Rattle.server_rounds.proofs.Both.{after_keys, after_run, whole_pair}
+use Rattle.server_rounds.proofs.OneServer.{one_server, told_messages}
 use Rattle.server_rounds.proofs.Together.{total-map, counted}
 use Rattle.server_rounds.proofs.Visiting.{all_cut, all_done, all_fails, all_none, all_then}
 use Rattle.server_rounds.proofs.run.both_runs.Goals as goal
@@ -161,3 +164,42 @@ returns-clause-visits g c =
     let t = c.in_ok-total.ensures in
     let both = all_then held g.S.Shelf.visited (run_columns z) (run_columns z) _ _ _ _ _ t.zero t.one t.two (rw plan at t.visits) (rw plan at c.in_ok-weighted.ensures.visits) in
     all_done held g.S.Shelf.visited _ _ _ _ _ both
+
+pub returns-in_err-ready-clause-trace : goal.returns-in_err-ready-clause-trace
+returns-in_err-ready-clause-trace g c =
+    let held = g.S.Shelf.held in
+    let rows = counted held c.args.shelves.now.zero.items _ _ c.count_rows-rows.ensures.count c.as_slice.ensures.value in
+    let z = sizes_for c.args.keys.now (rows_of (map held c.args.shelves.now.zero.items)) in
+    by_stopped _ _ _ _ c.from_residual.ensures.0 (query_cut z _ _ c.in_err-ready.ensures.trace)
+
+pub returns-in_err-total-clause-trace : goal.returns-in_err-total-clause-trace
+returns-in_err-total-clause-trace g c =
+    let held = g.S.Shelf.held in
+    let rows = counted held c.args.shelves.now.zero.items _ _ c.count_rows-rows.ensures.count c.as_slice.ensures.value in
+    let z = sizes_for c.args.keys.now (rows_of (map held c.args.shelves.now.zero.items)) in
+    let plan : c.in_ok-ready.ready.plan ≡ z = c.in_ok-ready.ensures.plan ∙ ap (sizes_for c.args.keys.now) rows in
+    by_stopped _ _ _ _ c.from_residual-in_err-total.ensures.0 (query_after_keys z _ _ _ c.in_ok-ready.ensures.trace (rw plan at c.in_err-total.ensures.trace))
+
+pub returns-in_err-weighted-clause-trace : goal.returns-in_err-weighted-clause-trace
+returns-in_err-weighted-clause-trace g c =
+    let held = g.S.Shelf.held in
+    let rows = counted held c.args.shelves.now.zero.items _ _ c.count_rows-rows.ensures.count c.as_slice.ensures.value in
+    let z = sizes_for c.args.keys.now (rows_of (map held c.args.shelves.now.zero.items)) in
+    let plan : c.in_ok-ready.ready.plan ≡ z = c.in_ok-ready.ensures.plan ∙ ap (sizes_for c.args.keys.now) rows in
+    by_stopped _ _ _ _ c.from_residual-in_err-weighted.ensures.0
+    (query_after_run z _ _ _ _ c.in_ok-ready.ensures.trace (rw plan at c.in_ok-total.ensures.trace) (rw plan at c.in_err-weighted.ensures.trace))
+
+pub returns-clause-trace : goal.returns-clause-trace
+returns-clause-trace g c =
+    let held = g.S.Shelf.held in
+    let rows = counted held c.args.shelves.now.zero.items _ _ c.count_rows-rows.ensures.count c.as_slice.ensures.value in
+    let z = sizes_for c.args.keys.now (rows_of (map held c.args.shelves.now.zero.items)) in
+    let plan : c.in_ok-ready.ready.plan ≡ z = c.in_ok-ready.ensures.plan ∙ ap (sizes_for c.args.keys.now) rows in
+    query_all z _ _ _ _ c.in_ok-ready.ensures.trace (rw plan at c.in_ok-total.ensures.trace) (rw plan at c.in_ok-weighted.ensures.trace)
+
+pub returns-clause-one_server : goal.returns-clause-one_server
+returns-clause-one_server g c old ms told_old told_new =
+    let m = returns-clause-messages g c in
+    let k = c.args.keys.now in
+    let these : m.0 ≡ ms = told_messages g.W.Wire.sight.reported _ _ old m.0 ms told_old told_new m.1.listed in
+    one_server c.shifted_open.ensures k _ _ m.0 ms _ c.shape.ensures.add_up c.shape.ensures.suits m.3.0 m.3.1 m.3.2 these

@@ -5,6 +5,9 @@ use Rattle.transcript.specs.Formulas.{total_ending}
 use Rattle.server_rounds.specs.Visits.{opened_columns, predicate_columns}
 use Rattle.server_rounds.proofs.Runs.{opening_part, run_ends}
 use Rattle.server_rounds.proofs.Visiting.{all_cut, all_done, all_fails, all_then}
+use Rattle.visit_trace.specs.Growing.{by_stopped, grew_both, prefix_begun, prefix_cut}
+use Rattle.visit_trace.specs.Expected as expected
+use Rattle.server_rounds.proofs.Noting.{grew_along, prefix_along, run_is}
 use Rattle.server_rounds.proofs.run.run_once.Goals as goal
 
 pub returns-in_err-product-clause-messages : goal.returns-in_err-product-clause-messages
@@ -82,3 +85,22 @@ returns-clause-visits g c =
     let both = all_then g.S.Shelf.held g.S.Shelf.visited (predicate_columns z) (opened_columns z.shape.aggregate z.widths.columns) _ _ _ _ _ p.zero p.one p.two p.visits
     (rw p.plan at c.in_ok-opened.ensures.visits) in
     all_done g.S.Shelf.held g.S.Shelf.visited _ _ _ _ _ both
+
+pub returns-in_err-product-clause-trace : goal.returns-in_err-product-clause-trace
+returns-in_err-product-clause-trace g c =
+    let z = c.args.ready.now.plan in
+    by_stopped _ _ _ _ c.from_residual.ensures.0
+    (prefix_along _ _ _ _ (run_is z) (prefix_cut _ _ _ (expected.opening_part z) c.in_err-product.ensures.trace))
+
+pub returns-in_err-opened-clause-trace : goal.returns-in_err-opened-clause-trace
+returns-in_err-opened-clause-trace g c =
+    let z = c.args.ready.now.plan in
+    let p = c.in_ok-product.ensures in
+    by_stopped _ _ _ _ c.from_residual-in_err-opened.ensures.0
+    (prefix_along _ _ _ _ (run_is z) (prefix_begun _ _ _ _ (expected.opening_part z) p.trace (rw p.plan at c.in_err-opened.ensures.trace)))
+
+pub returns-clause-trace : goal.returns-clause-trace
+returns-clause-trace g c =
+    let z = c.args.ready.now.plan in
+    let p = c.in_ok-product.ensures in
+    grew_along _ _ _ _ (run_is z) (grew_both _ _ _ _ (expected.opening_part z) p.trace (rw p.plan at c.in_ok-opened.ensures.trace))

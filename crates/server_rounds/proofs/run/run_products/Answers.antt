@@ -3,6 +3,8 @@ use Rattle.wire_line.specs.Carried.{went_both}
 use Rattle.transcript.specs.Setup.{Sizes, column_of, count_of}
 use Rattle.server_rounds.proofs.Runs.{first_part, so_far_first, predicate_part, so_far_more}
 use Rattle.server_rounds.proofs.Visiting.{all_first, all_more}
+use Rattle.visit_trace.specs.Growing.{by_stopped}
+use Rattle.server_rounds.proofs.Noting.{predicates_begun, predicates_first, predicates_more}
 use Rattle.server_rounds.proofs.run.run_products.Goals as goal
 
 pub returns-in_err-product-clause-messages : goal.returns-in_err-product-clause-messages
@@ -23,6 +25,7 @@ loop-j-init g c =
       run = c.in_ok-product.ensures.run;
       j = omega (arith, c.in_ok-product.ensures.j);
       visits = c.in_ok-product.ensures.visits;
+      trace = c.in_ok-product.ensures.trace;
       messages = (b.0, b.1, so_far_first _ _ _ _ _ b.0 c.requires.run some b.2 b.3);
     }
 
@@ -75,6 +78,9 @@ loop-j-preserved g c =
       visits =
           all_more g.S.Shelf.held g.S.Shelf.visited c.loop-j._j (column_of c.args.ready.now.plan) _ _ _ _ _ i.zero i.one i.two i.visits
           (rw (i.plan, i.j) at c.in_ok-product-2.ensures.visits);
+      trace =
+          let some : 0 < c.loop-j._j = omega (arith, i.j) in
+          predicates_more c.args.ready.now.plan c.loop-j._j _ _ _ some i.trace (rw (i.plan, i.j) at c.in_ok-product-2.ensures.trace);
       messages = (i.messages.0 ++ m.0, went, so_far_more _ _ _ _ _ _ _ i.messages.0 m.0 c.requires.run some i.messages.2 m.2.0 m.2.1);
     }
 
@@ -115,3 +121,23 @@ pub returns-clause-visits : goal.returns-clause-visits
 returns-clause-visits g c =
     let all : c.loop-j._j ≡ count_of c.args.ready.now.plan = omega (arith, c.loop-j-test.false, c.count-count.ensures.value, c.count-count.ensures.some, c.loop-j.auto._j-end) in
     rw all at c.loop-j.invariant.visits
+
+pub returns-in_err-product-clause-trace : goal.returns-in_err-product-clause-trace
+returns-in_err-product-clause-trace g c =
+    let some : 1 ≤ count_of c.args.ready.now.plan = omega (arith, c.count-count.ensures.some, c.count-count.ensures.value) in
+    by_stopped _ _ _ _ c.from_residual.ensures.0 (predicates_first c.args.ready.now.plan 1 (count_of c.args.ready.now.plan) _ _ some c.in_err-product.ensures.trace)
+
+pub returns-in_err-product-2-clause-trace : goal.returns-in_err-product-2-clause-trace
+returns-in_err-product-2-clause-trace g c =
+    let i = c.loop-j.invariant in
+    let z = c.args.ready.now.plan in
+    let j = c.loop-j._j in
+    let some : 0 < j = omega (arith, i.j) in
+    let more : j + 1 ≤ count_of z = omega (arith, c.loop-j-test.true, c.count-count.ensures.value) in
+    by_stopped _ _ _ _ c.from_residual-in_err-product-2.ensures.0
+    (predicates_first z (j + 1) (count_of z) _ _ more (predicates_begun z j _ _ _ some i.trace (rw (i.plan, i.j) at c.in_err-product-2.ensures.trace)))
+
+pub returns-clause-trace : goal.returns-clause-trace
+returns-clause-trace g c =
+    let all : c.loop-j._j ≡ count_of c.args.ready.now.plan = omega (arith, c.loop-j-test.false, c.count-count.ensures.value, c.count-count.ensures.some, c.loop-j.auto._j-end) in
+    rw all at c.loop-j.invariant.trace

@@ -8,6 +8,8 @@ use Rattle.server_rounds.specs.Plans.{views_of}
 use Rattle.server_rounds.specs.Shelves.{pieces_of}
 use Rattle.server_rounds.specs.Runs.{HaveProducts}
 use Rattle.server_rounds.specs.Visits.{AllVisited}
+use Rattle.visit_trace.specs.Seen.{Grew}
+use Rattle.server_rounds.proofs.Noting.{predicates_part}
 use Rattle.server_rounds.proofs.run.run_products.Given as goal
 
 abbrev pub invariant-loop-j : goal.invariant-loop-j
@@ -20,6 +22,7 @@ invariant-loop-j g l =
       run : l.product.run ≡ l.run;
       j : l.product.j + 1 ≡ l._j;
       visits : AllVisited held g.S.Shelf.visited (listed l._j (column_of l.ready.plan)) l.fn.shelves l.shelves (Ok l.product);
+      trace : Grew l.fn.trace l.trace (predicates_part l.ready.plan l._j);
       messages : (ms : List Message) × Went g.W.Wire.sight l.fn.wire ms l.wire
           × HaveProducts l.ready.plan
           (by_server (pieces_of (map held l.fn.shelves.zero.items)) (pieces_of (map held l.fn.shelves.one.items)) (pieces_of (map held l.fn.shelves.two.items)))

@@ -41,7 +41,7 @@ returns-in_err-count-in-Ok-clause-stops g c =
     c.args.self.now.done c.in-Some.event h.0 h.1 c.step.new.self.core c.in-Ok.reply c.from.result c.index_mut-wire.result.now c.step.new.wire e
     (subst (λ (w : Widths). Carries w stage.core c.in-Some.event h.0 h.1) c.requires.ready.widths h.3.1)
     (sym (ap (λ (n : ℕ). step_at n stage.core c.in-Some.event h.1) c.requires.ready.capacity) ∙ h.3.2)
-    (sym (c.from.ensures ∙ c.actor_in-actor.ensures)) (omega (arith, c.requires.wires, c.from.ensures, c.if-actor-ge-ACTORS.false)) c.index_mut-wire.ensures.value
+    (sym (c.from.ensures ∙ c.actor_in-actor.ensures)) (omega (arith, c.requires.wires (omega (arith, c.actor_in-actor.ensures, c.if-actor-ge-ACTORS.false)), c.from.ensures, c.actor_in-actor.ensures)) c.index_mut-wire.ensures.value
     h.2 (λ still. c.in-Ok.ensures.quiet (event_quiet s stage c.args.step c.in-Some.event e still)) (λ honest. (h.4 honest).0))
 
 pub returns-in_ok-count-in-Ok-clause-ready : goal.returns-in_ok-count-in-Ok-clause-ready
@@ -61,7 +61,7 @@ returns-in_ok-count-in-Ok-clause-leads g c =
     c.in-Some.event h.0 h.1 c.step.new.self.core c.in-Ok.reply c.from.result c.index_mut-wire.result.now c.step.new.wire (stage_of c.count.new.self) e
     (subst (λ (w : Widths). Carries w stage.core c.in-Some.event h.0 h.1) c.requires.ready.widths h.3.1)
     (sym (ap (λ (n : ℕ). step_at n stage.core c.in-Some.event h.1) c.requires.ready.capacity) ∙ h.3.2) c.in_ok-count-in-Ok.ensures.stage
-    (sym (c.from.ensures ∙ c.actor_in-actor.ensures)) (omega (arith, c.requires.wires, c.from.ensures, c.if-actor-ge-ACTORS.false)) c.index_mut-wire.ensures.value
+    (sym (c.from.ensures ∙ c.actor_in-actor.ensures)) (omega (arith, c.requires.wires (omega (arith, c.actor_in-actor.ensures, c.if-actor-ge-ACTORS.false)), c.from.ensures, c.actor_in-actor.ensures)) c.index_mut-wire.ensures.value
     h.2 (λ still. c.in-Ok.ensures.quiet (event_quiet s stage c.args.step c.in-Some.event e still)) (λ honest. (h.4 honest).0) (λ still. c.in-Ok.ensures.accepted still)
 
 pub returns-in-Err-NotAllowed-clause-stops : goal.returns-in-Err-NotAllowed-clause-stops
@@ -85,5 +85,5 @@ returns-in-Err-Memory-clause-stops g c =
     step_begun g.W.Wire.sight g.met.W.Wire.none_passes c.args.setting.now.widths s c.args.style stage c.args.step c.args.wires.now.items
     c.args.self.now.done c.in-Some.event h.0 c.from.result c.index_mut-wire.result.now c.step.new.wire e
     (subst (λ (w : Widths). Begins w stage.core c.in-Some.event h.0) c.requires.ready.widths h.3.0)
-    (sym (c.from.ensures ∙ c.actor_in-actor.ensures)) (omega (arith, c.requires.wires, c.from.ensures, c.if-actor-ge-ACTORS.false)) c.index_mut-wire.ensures.value
+    (sym (c.from.ensures ∙ c.actor_in-actor.ensures)) (omega (arith, c.requires.wires (omega (arith, c.actor_in-actor.ensures, c.if-actor-ge-ACTORS.false)), c.from.ensures, c.actor_in-actor.ensures)) c.index_mut-wire.ensures.value
     h.2 (λ still. c.in-Err-Memory.ensures.quiet (event_quiet s stage c.args.step c.in-Some.event e still))

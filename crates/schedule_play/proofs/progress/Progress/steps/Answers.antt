@@ -1,4 +1,4 @@
-use Rattle.std.proofs.Common.{◌+◌, [], ◌∷◌, take, drop, get_or}
+use Rattle.std.proofs.Common.{◌+◌, [], ◌∷◌, take, drop, get_or, arith}
 use Rattle.std.proofs.lemmas.Result.{err_from_is_err_and}
 use Rattle.std.proofs.lemmas.List.{take_more}
 use Rattle.waldo_words.specs.declared.schedule.Step.TheVariants.{Draw}
@@ -9,7 +9,11 @@ use Rattle.schedule_play.proofs.progress.Progress.steps.Goals as goal
 
 pub loop-step-init : goal.loop-step-init
 loop-step-init g c = kept_first g.W.Wire.sight c.args.setting.now.widths (seen c.args.setting.now) c.args.style
-    g.met.W.Wire.none_passes c.args.self.now c.args.wires.now.items c.requires.ready c.requires.wires
+    g.met.W.Wire.none_passes c.args.self.now c.args.wires.now.items c.requires.ready
+
+pub step-requires-clause-wires : goal.step-requires-clause-wires
+step-requires-clause-wires g c κs within = λ small.
+    omega (arith, c.loop-step.invariant.same, c.requires.wires c.loop-step.step-index (Draw 0) c.loop-step-test.true small)
 
 pub returns-in_err-step-clause-stops : goal.returns-in_err-step-clause-stops
 returns-in_err-step-clause-stops g c =

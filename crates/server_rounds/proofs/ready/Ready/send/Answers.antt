@@ -6,6 +6,10 @@ use Rattle.transcript.specs.Setup.{Sizes}
 use Rattle.server_rounds.specs.Plans.{read_for, sizes_for}
 use Rattle.server_rounds.proofs.Messages.{group_none, regroup, three_same}
 use Rattle.server_rounds.proofs.Tables.{legal_query, sent_long}
+use Rattle.query_plan.specs.KeyMessages.{message_length}
+use Rattle.visit_trace.specs.Growing.{by_stopped, prefix_none, prefix_whole}
+use Rattle.server_rounds.specs.declared.way.Way.TheVariants.{ToServers}
+use Rattle.server_rounds.proofs.Noting.{group_same, grew_along, prefix_along}
 use Rattle.server_rounds.proofs.ready.Ready.send.Goals as goal
 
 pub new-plan-requires : goal.new-plan-requires
@@ -72,3 +76,51 @@ pub read_keys-requires-3 : goal.read_keys-requires-3
 read_keys-requires-3 g c =
     let plan : c.new-plan.result ≡ sizes_for c.args.keys.now c.args.rows = c.new-plan.ensures ∙ rw (c.widths.ensures, c.shape.ensures.shape) in
     sent_long c.args.keys.now c.new-plan.result c.args.rows _ _ plan c.in_ok-two.ensures.length c.in_ok-got.ensures.long.long2
+
+pub returns-in_err-zero-clause-trace : goal.returns-in_err-zero-clause-trace
+returns-in_err-zero-clause-trace g c = by_stopped _ _ _ _ c.from_residual.ensures.0 (prefix_none _ _)
+
+pub returns-in_err-one-clause-trace : goal.returns-in_err-one-clause-trace
+returns-in_err-one-clause-trace g c = by_stopped _ _ _ _ c.from_residual-in_err-one.ensures.0 (prefix_none _ _)
+
+pub returns-in_err-two-clause-trace : goal.returns-in_err-two-clause-trace
+returns-in_err-two-clause-trace g c = by_stopped _ _ _ _ c.from_residual-in_err-two.ensures.0 (prefix_none _ _)
+
+pub returns-in_err-got-clause-trace : goal.returns-in_err-got-clause-trace
+returns-in_err-got-clause-trace g c =
+    let asked = c.args.keys.now in
+    let n = message_length (sizes_for asked c.args.rows).shape asked.widths.bits in
+    by_stopped _ _ _ _ c.from_residual-in_err-got.ensures.0
+    (prefix_along _ _ _ _ (group_same ToServers _ _ _ n c.in_ok-zero.ensures.length c.in_ok-one.ensures.length c.in_ok-two.ensures.length)
+    c.in_err-got.ensures.trace)
+
+pub returns-in_err-zero_read-clause-trace : goal.returns-in_err-zero_read-clause-trace
+returns-in_err-zero_read-clause-trace g c =
+    let asked = c.args.keys.now in
+    let n = message_length (sizes_for asked c.args.rows).shape asked.widths.bits in
+    by_stopped _ _ _ _ c.from_residual-in_err-zero_read.ensures.0
+    (prefix_whole _ _ _ (grew_along _ _ _ _ (group_same ToServers _ _ _ n c.in_ok-zero.ensures.length c.in_ok-one.ensures.length c.in_ok-two.ensures.length)
+    c.in_ok-got.ensures.trace))
+
+pub returns-in_err-one_read-clause-trace : goal.returns-in_err-one_read-clause-trace
+returns-in_err-one_read-clause-trace g c =
+    let asked = c.args.keys.now in
+    let n = message_length (sizes_for asked c.args.rows).shape asked.widths.bits in
+    by_stopped _ _ _ _ c.from_residual-in_err-one_read.ensures.0
+    (prefix_whole _ _ _ (grew_along _ _ _ _ (group_same ToServers _ _ _ n c.in_ok-zero.ensures.length c.in_ok-one.ensures.length c.in_ok-two.ensures.length)
+    c.in_ok-got.ensures.trace))
+
+pub returns-in_err-two_read-clause-trace : goal.returns-in_err-two_read-clause-trace
+returns-in_err-two_read-clause-trace g c =
+    let asked = c.args.keys.now in
+    let n = message_length (sizes_for asked c.args.rows).shape asked.widths.bits in
+    by_stopped _ _ _ _ c.from_residual-in_err-two_read.ensures.0
+    (prefix_whole _ _ _ (grew_along _ _ _ _ (group_same ToServers _ _ _ n c.in_ok-zero.ensures.length c.in_ok-one.ensures.length c.in_ok-two.ensures.length)
+    c.in_ok-got.ensures.trace))
+
+pub returns-clause-trace : goal.returns-clause-trace
+returns-clause-trace g c =
+    let asked = c.args.keys.now in
+    let n = message_length (sizes_for asked c.args.rows).shape asked.widths.bits in
+    grew_along _ _ _ _ (group_same ToServers _ _ _ n c.in_ok-zero.ensures.length c.in_ok-one.ensures.length c.in_ok-two.ensures.length)
+    c.in_ok-got.ensures.trace

@@ -1,0 +1,4 @@
+pub mod Sizes
+pub mod Seen
+pub mod Expected
+pub mod Growing
