@@ -174,5 +174,5 @@ sums_long w old new cells e =
 -- how long the sums are where rows were appended
 pub long_after : {T E : Type 0} (r : Result T E) (w : ℕ) (old new cells : List ℕ) → is_ok r ≡ true → OnOk r (cells_in w new ≡ cells_in w old ++ cells)
     → length new ≡ length old + length cells
-long_after (Ok x) w old new cells yes e = sums_long w old new cells e
-long_after (Err m) w old new cells yes e = absurd cc
+long_after (Ok x) w old new cells good e = sums_long w old new cells e
+long_after (Err m) w old new cells good e = absurd cc

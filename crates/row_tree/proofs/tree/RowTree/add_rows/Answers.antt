@@ -14,14 +14,14 @@ invariant_of-self-then-is_ok g c =
     let old : inside.rows ≡ c.args.self.now.rows = ap (λ (t : Tree). t.rows) c.self.view_is in
     let width : h.width inside.column ≡ inside.width = ap h.width col ∙ (c.requires.width ∙ sym wide) in
     let there : inside.column ≤ h.columns = omega (arith, c.requires.column, col) in
-    let yes : is_ok r ≡ true = sym c.is_ok.ensures.value ∙ c.if-is_ok.true in
+    let good : is_ok r ≡ true = sym c.is_ok.ensures.value ∙ c.if-is_ok.true in
     let count = c.rows-rows.result in
     let near : length (h.pieces.first inside.column) ≡ count * inside.width =
         c.rows-rows.ensures.shelf.first inside.column there ∙ (ap (λ (x : ℕ). x * h.width inside.column) (sym c.rows-rows.ensures.value) ∙ ap (λ (x : ℕ). count * x) width) in
     let far : length (h.pieces.second inside.column) ≡ count * inside.width =
         c.rows-rows.ensures.shelf.second inside.column there ∙ (ap (λ (x : ℕ). x * h.width inside.column) (sym c.rows-rows.ensures.value) ∙ ap (λ (x : ℕ). count * x) width) in
-    let first = long_after r inside.width c.reserve.new.self.items c.run_chunks-added.new.first.items (h.pieces.first inside.column) yes c.run_chunks-added.ensures.first in
-    let second = long_after r inside.width c.reserve-2.new.self.items c.run_chunks-added.new.second.items (h.pieces.second inside.column) yes c.run_chunks-added.ensures.second in
+    let first = long_after r inside.width c.reserve.new.self.items c.run_chunks-added.new.first.items (h.pieces.first inside.column) good c.run_chunks-added.ensures.first in
+    let second = long_after r inside.width c.reserve-2.new.self.items c.run_chunks-added.new.second.items (h.pieces.second inside.column) good c.run_chunks-added.ensures.second in
     (
       c.self.invariant.0,
       c.self.invariant.1,
