@@ -83,7 +83,7 @@ opened_in ms ns later run total long opened =
 -- the words of a run, where the servers read these views
 pub group_words : (s : Sides) (views : ℕ → View) (ms ns : List Message) (run : ℕ) → ((k : ℕ) → k < 3 → views k ≡ s.read (message_at ms k).received)
     → IsGroup ToClient (by_server (sum_word (views 0) run (s.first 0) (s.second 0) (tree_counter run) ∷ []) (sum_word (views 1) run (s.first 1) (s.second 1) (tree_counter run) ∷ [])
-        (sum_word (views 2) run (s.first 2) (s.second 2) (tree_counter run) ∷ [])) ns
+    (sum_word (views 2) run (s.first 2) (s.second 2) (tree_counter run) ∷ [])) ns
     → IsGroup ToClient (word_in s ms run) ns
 group_words s views ms ns run seen g =
     let at = λ (k : ℕ) (h : k < 3). ap (λ (v : View). sum_word v run (s.first k) (s.second k) (tree_counter run) ∷ []) (seen k h) in

@@ -152,13 +152,13 @@ word_is s w low high first second bits query weights rows ms run k two three ord
     let all = tiles (high - low) low high order (omega arith) in
     let x : s.first k ≡ sum_rows w (first k) places = asks.firsts k three ∙ ap (sum_rows w (first k)) all in
     let y : s.second k ≡ sum_rows w (first ((k + 1) % 3)) places =
-        asks.seconds k three ∙ (ap (sum_rows w (second k)) all ∙ ap (λ (l : List ℕ). sum_rows w l places) (asks.shared.next k three)) in
+    asks.seconds k three ∙ (ap (sum_rows w (second k)) all ∙ ap (λ (l : List ℕ). sum_rows w l places) (asks.shared.next k three)) in
     ap (λ (l : List ℕ). get_or l 0 0) (honest_at ms place honest inside ∙ fits.words)
     ∙ (ap (λ (l : List ℕ). sum_word (s.read l) run (s.first k) (s.second k) c) keys
     ∙ (ap (λ (l : List ℕ). sum_word view run l (s.second k) c) x
     ∙ (ap (λ (l : List ℕ). sum_word view run (sum_rows w (first k) places) l c) y
     ∙ ap (λ (v : Seed). plus (plus (dot_of (view.party0 run 0) (sum_rows w (first k) places)) (dot_of (view.party1 run 0) (sum_rows w (first ((k + 1) % 3)) places)))
-        (minus (pad_of view.own c) (pad_of v c))) (asks.keys.seeds k three))))
+    (minus (pad_of view.own c) (pad_of v c))) (asks.keys.seeds k three))))
 
 -- with one predicate a row passes where it is inside
 passes_one : (query : Query) (row : Row) → query.count ≡ 1 → passes query row ≡ is_inside (predicate_at query 0) (bucket_of query row)
@@ -191,7 +191,7 @@ run_opens s w low high first second bits query weights rows ms run two order the
     let key = times 1 (weights run 0) in
     let some : 0 < query.count = omega (arith, asks.one) in
     let pair = λ (k : ℕ) (h : k < 3). subst (λ (v : ℕ). IsTablePair v ((s.read (s.keys ((k + 1) % 3))).party0 run 0) ((s.read (s.keys k)).party1 run 0) f)
-        (sym asks.width) (asks.keys.pairs run 0 k two some h) in
+    (sym asks.width) (asks.keys.pairs run 0 k two some h) in
     let k0 : 0 < 3 = omega arith in
     let k1 : 1 < 3 = omega arith in
     let k2 : 2 < 3 = omega arith in
@@ -206,25 +206,25 @@ run_opens s w low high first second bits query weights rows ms run two order the
     let y = sum_rows w (first 1) places in
     let z = sum_rows w (first 2) places in
     let three : IsThree (length rows * w) (first 0) (first 1) (first 2) =
-        subst (λ (v : ℕ). IsThree v (first 0) (first 1) (first 2)) long asks.shared.long in
+    subst (λ (v : ℕ). IsThree v (first 0) (first 1) (first 2)) long asks.shared.long in
     let within : low + n ≤ length rows = omega (arith, order, there) in
     let word = λ (k : ℕ) (h : k < 3). word_is s w low high first second bits query weights rows ms run k two h order asks t honest in
     let sum = bits_add_up w (v0.party0 run 0) (v1.party0 run 0) (v2.party0 run 0) (v0.party1 run 0) (v1.party1 run 0) (v2.party1 run 0) x y z (listed w f)
-        (pad_of v0.own c) (pad_of v1.own c) (pad_of v2.own c)
-        (record { first = p2.long0; second = p0.long0; third = p1.long0 }) (record { first = p0.long1; second = p1.long1; third = p2.long1 })
-        (record { first = length-listed w (sum_at w (first 0) places); second = length-listed w (sum_at w (first 1) places); third = length-listed w (sum_at w (first 2) places) })
-        p2.adds_up p0.adds_up p1.adds_up in
+    (pad_of v0.own c) (pad_of v1.own c) (pad_of v2.own c)
+    (record { first = p2.long0; second = p0.long0; third = p1.long0 }) (record { first = p0.long1; second = p1.long1; third = p2.long1 })
+    (record { first = length-listed w (sum_at w (first 0) places); second = length-listed w (sum_at w (first 1) places); third = length-listed w (sum_at w (first 2) places) })
+    p2.adds_up p0.adds_up p1.adds_up in
     ap (λ (v : ℕ). plus (plus v (get_or (message_at ms (3 + 3 * run + 1)).received 0 0)) (get_or (message_at ms (3 + 3 * run + 2)).received 0 0)) (word 0 k0)
     ∙ (ap (λ (v : ℕ). plus (plus (spread s w first run places 0) v) (get_or (message_at ms (3 + 3 * run + 2)).received 0 0)) (word 1 k1)
     ∙ (ap (λ (v : ℕ). plus (plus (spread s w first run places 0) (spread s w first run places 1)) v) (word 2 k2)
     ∙ (sum
     ∙ (ap (λ (l : List ℕ). dot_of (listed w f) l) (sum_rows3 w (length rows) (first 0) (first 1) (first 2) three low n within ∙ ap (λ (l : List ℕ). sum_rows w l places) asks.shared.adds_up)
     ∙ (dot_of_rows (listed w f) cells w (λ (i : ℕ). g (get_or rows i no_row)) low n
-        (λ i a b. let h : i < length rows = omega (arith, within) in
-            ap (λ (l : List ℕ). dot_of (listed w f) l)
-            (row_cells w (length rows) i cells long h
-            ∙ row_of-flat_map code w (λ (row : Row). length-listed w (λ (q : ℕ). cond (eqb q (bucket_of query row)) 1 0)) rows i no_row h)
-            ∙ dot_of-code f (bucket_of query (get_or rows i no_row)) w (asks.inside i no_row h))
+    (λ i a b. let h : i < length rows = omega (arith, within) in
+    ap (λ (l : List ℕ). dot_of (listed w f) l)
+    (row_cells w (length rows) i cells long h
+    ∙ row_of-flat_map code w (λ (row : Row). length-listed w (λ (q : ℕ). cond (eqb q (bucket_of query row)) 1 0)) rows i no_row h)
+    ∙ dot_of-code f (bucket_of query (get_or rows i no_row)) w (asks.inside i no_row h))
     ∙ (ap total_of (places_rows g no_row rows n low within)
     ∙ total_passing g (passes query) key (omega arith)
     (λ (row : Row). number p (weights run 0) (bucket_of query row) ∙ ap (λ (b : Bool). cond b key 0) (sym (passes_one query row asks.one))) (rows_between rows low high)))))))
@@ -237,7 +237,7 @@ codes_are asked [] there = refl
 codes_are asked (row ∷ rows) there =
     let c = (predicate_at asked.query 0).column in
     let one : code_at asked.widths c row ≡ one_hot (width_of asked.widths c) (bucket_of asked.query row) =
-        code_below asked.widths row c there ∙ ap (λ (w : ℕ). one_hot w (bucket_of asked.query row)) (sym (width_below asked.widths c there)) in
+    code_below asked.widths row c there ∙ ap (λ (w : ℕ). one_hot w (bucket_of asked.query row)) (sym (width_below asked.widths c there)) in
     ap (λ (l : List ℕ). l ++ flat_map (code_at asked.widths c) rows) one
     ∙ ap (λ (l : List ℕ). one_hot (width_of asked.widths c) (bucket_of asked.query row) ++ l) (codes_are asked rows there)
 
@@ -294,11 +294,10 @@ trees_open asked rows t0 t1 t2 low high ms order there asks t honest =
     let w = width_of asked.widths (predicate_at asked.query 0).column in
     let over = asks_sums asked rows t0 t1 t2 low high asks in
     let run = λ (r : ℕ) (h : r < 2). run_opens (sides_over asked t0 t1 t2 low high) w low high first second asked.widths.bits asked.query (weights_of asked.seed) rows ms r
-        h order there over t honest in
+    h order there over t honest in
     let answer : word_of (plain asked.query (rows_between rows low high)) ≡ n % 2 ^ 128 =
-        ap (λ (a : Aggregate). word_of (answer_of a (filter (passes asked.query) (rows_between rows low high)))) asks.count in
-    let key = key_from (weights_of asked.seed 1) 1 in
-    (
+    ap (λ (a : Aggregate). word_of (answer_of a (filter (passes asked.query) (rows_between rows low high)))) asks.count in
+    let key = key_from (weights_of asked.seed 1) 1 in (
       run 0 (omega arith) ∙ (one_times n ∙ sym answer),
       run 1 (omega arith) ∙ (small_times key n ∙ ap (times key) (sym answer)),
     )

@@ -36,12 +36,12 @@ cells_more w sums x some small =
     let all = sums ++ y ∷ [] in
     let long : length all ≡ n + 1 = length-append sums (y ∷ []) in
     let old : listed n (cell_in w all) ≡ listed n (cell_in w sums) =
-        listed_same n (cell_in w all) (cell_in w sums)
-        (λ i h. ap (λ v. minus v (last_of w all i)) (get_or_append_left sums (y ∷ []) 0 i h)
-            ∙ ap (λ v. minus (get_or sums i 0) v) (last_same w sums y i some (omega arith))) in
+    listed_same n (cell_in w all) (cell_in w sums)
+    (λ i h. ap (λ v. minus v (last_of w all i)) (get_or_append_left sums (y ∷ []) 0 i h)
+    ∙ ap (λ v. minus (get_or sums i 0) v) (last_same w sums y i some (omega arith))) in
     let new : cell_in w all n ≡ x =
-        ap (λ v. minus v (last_of w all n)) (get_or-append_seam sums y [] 0)
-        ∙ (ap (λ v. minus y v) (last_same w sums y n some (omega arith)) ∙ taken_off x (last_of w sums n) small) in
+    ap (λ v. minus v (last_of w all n)) (get_or-append_seam sums y [] 0)
+    ∙ (ap (λ v. minus y v) (last_same w sums y n some (omega arith)) ∙ taken_off x (last_of w sums n) small) in
     ap (λ k. listed k (cell_in w all)) long
     ∙ (sym (listed_more n (cell_in w all)) ∙ (ap (λ (l : List ℕ). l ++ cell_in w all n ∷ []) old ∙ ap (λ v. cells_in w sums ++ v ∷ []) new))
 

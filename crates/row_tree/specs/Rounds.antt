@@ -27,8 +27,10 @@ abbrev pub sides_over : Asked → Tree → Tree → Tree → ℕ → ℕ → Sid
 sides_over asked zero one two low high = record {
   keys = words_for asked;
   read = read_for asked;
-  first = by_server (range_sum zero.width zero.first low high) (range_sum one.width one.first low high) (range_sum two.width two.first low high);
-  second = by_server (range_sum zero.width zero.second low high) (range_sum one.width one.second low high) (range_sum two.width two.second low high);
+  first = by_server (range_sum zero.width zero.first low high) (range_sum one.width one.first low high)
+      (range_sum two.width two.first low high);
+  second = by_server (range_sum zero.width zero.second low high) (range_sum one.width one.second low high)
+      (range_sum two.width two.second low high);
 }
 
 -- the counter of the zero parts of a run
@@ -43,7 +45,8 @@ word_in s ms run k = sum_word (s.read (message_at ms k).received) run (s.first k
 pub record IsTreePart (s : Sides) (ms : List Message) : Type 0 where
   pub few : length ms ≤ 9
   pub keys : (k : ℕ) → k < 3 → k < length ms → Fits (message_at ms k) Client (peer_of k) (s.keys k)
-  pub openings : (run k : ℕ) → run < 2 → k < 3 → 3 + 3 * run + k < length ms → Fits (message_at ms (3 + 3 * run + k)) (peer_of k) Client (word_in s ms run k)
+  pub openings : (run k : ℕ) → run < 2 → k < 3 → 3 + 3 * run + k < length ms
+      → Fits (message_at ms (3 + 3 * run + k)) (peer_of k) Client (word_in s ms run k)
 
 -- all nine
 pub record IsTreeTranscript (s : Sides) (ms : List Message) : Type 0 where

@@ -29,7 +29,8 @@ fn word(alloc: Global, ready: &Ready, server: u8, run: u8, sums: &Sums) -> Resul
     requires run { run < 2 }
     requires first { length sums.now.first.items ≡ width_of ready.now.plan.widths (column_of ready.now.plan 0) }
     requires second { length sums.now.second.items ≡ width_of ready.now.plan.widths (column_of ready.now.plan 0) }
-    ensures words { IfOk result (λ w. w ≡ sum_word (views_of ready.now.keys server) run sums.now.first.items sums.now.second.items (tree_counter run) ∷ []) }
+    ensures words { let view = views_of ready.now.keys server in
+        IfOk result (λ w. w ≡ sum_word view run sums.now.first.items sums.now.second.items (tree_counter run) ∷ []) }
     ensures long { IfOk result (λ w. length w ≡ 1) }
 {
     let counter = (40 + u64::from(run)) * 65_536;
@@ -80,9 +81,9 @@ pub(crate) fn open_run<W: Wire>(
     requires two_second { length two.now.second.items ≡ width_of ready.now.plan.widths (column_of ready.now.plan 0) }
     ensures { (ms : List Message) × Went W.sight wire.old ms wire.new
         × IsGroup Way.ToClient (by_server
-            (sum_word (views_of ready.now.keys 0) run zero.now.first.items zero.now.second.items (tree_counter run) ∷ [])
-            (sum_word (views_of ready.now.keys 1) run one.now.first.items one.now.second.items (tree_counter run) ∷ [])
-            (sum_word (views_of ready.now.keys 2) run two.now.first.items two.now.second.items (tree_counter run) ∷ [])) ms
+        (sum_word (views_of ready.now.keys 0) run zero.now.first.items zero.now.second.items (tree_counter run) ∷ [])
+        (sum_word (views_of ready.now.keys 1) run one.now.first.items one.now.second.items (tree_counter run) ∷ [])
+        (sum_word (views_of ready.now.keys 2) run two.now.first.items two.now.second.items (tree_counter run) ∷ [])) ms
         × IfOk result (λ total. IsOpened ms total) }
 {
     let zero = word(alloc, ready, 0, run, zero)?;

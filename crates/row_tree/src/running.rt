@@ -52,8 +52,10 @@ pub(crate) fn run_chunks<S: Shelf>(
     requires first_room { vec_len first.old + (S.held shelf.old).rows * width ≤ vec_capacity first.old }
     requires second_room { vec_len second.old + (S.held shelf.old).rows * width ≤ vec_capacity second.old }
     ensures held { S.held shelf.new ≡ S.held shelf.old }
-    ensures first { OnOk result (cells_in width first.new.items ≡ cells_in width first.old.items ++ (S.held shelf.old).pieces.first column) }
-    ensures second { OnOk result (cells_in width second.new.items ≡ cells_in width second.old.items ++ (S.held shelf.old).pieces.second column) }
+    ensures first { let pieces = (S.held shelf.old).pieces in
+        OnOk result (cells_in width first.new.items ≡ cells_in width first.old.items ++ pieces.first column) }
+    ensures second { let pieces = (S.held shelf.old).pieces in
+        OnOk result (cells_in width second.new.items ≡ cells_in width second.old.items ++ pieces.second column) }
     ensures first_grown { GrownFrom first.old.items first.new.items }
     ensures second_grown { GrownFrom second.old.items second.new.items }
     ensures visits { OnOk result (S.visited shelf.new ≡ S.visited shelf.old ++ visits_of (S.held shelf.old) column) }
@@ -95,7 +97,8 @@ pub(crate) fn sum_between(
     requires long { length sums.now ≡ rows * width }
     requires from { from ≤ rows }
     requires to { to ≤ rows }
-    ensures { IfOk result (λ words. words.items ≡ listed width (λ b. minus (before_of width sums.now to b) (before_of width sums.now from b))) }
+    ensures { IfOk result (λ words. words.items
+        ≡ listed width (λ b. minus (before_of width sums.now to b) (before_of width sums.now from b))) }
 {
     let mut words = Vec::with_capacity(alloc, width)?;
     for b in 0..width {

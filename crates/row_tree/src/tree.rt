@@ -118,13 +118,14 @@ impl RowTree {
         requires few { self.old.rows + (S.held shelf.old).rows ≤ 65536 }
         ensures held { S.held shelf.new ≡ S.held shelf.old }
         ensures rows { OnOk result (self.new ≡ record self.old {
-            rows = self.old.rows + (S.held shelf.old).rows;
-            first = self.old.first ++ (S.held shelf.old).pieces.first self.old.column;
-            second = self.old.second ++ (S.held shelf.old).pieces.second self.old.column;
+          rows = self.old.rows + (S.held shelf.old).rows;
+          first = self.old.first ++ (S.held shelf.old).pieces.first self.old.column;
+          second = self.old.second ++ (S.held shelf.old).pieces.second self.old.column;
         }) }
         ensures visits { OnOk result (S.visited shelf.new ≡ S.visited shelf.old ++ visits_of (S.held shelf.old) self.old.column) }
         ensures kept { OnErr result (self.new ≡ self.old) }
-        ensures part { OnErr result (VisitsPart (S.visited shelf.old) (S.visited shelf.new) (visits_of (S.held shelf.old) self.old.column)) }
+        ensures part { OnErr result
+            (VisitsPart (S.visited shelf.old) (S.visited shelf.new) (visits_of (S.held shelf.old) self.old.column)) }
     {
         let rows = shelf.rows();
         let width = self.width as usize;
@@ -159,7 +160,14 @@ impl RowTree {
         let rows = self.rows as usize;
         let width = self.width as usize;
         let first = sum_between(alloc, self.first.as_slice(), rows, width, from, from + size)?;
-        let second = sum_between(alloc, self.second.as_slice(), rows, width, from, from + size)?;
+        let second = sum_between(
+            alloc,
+            self.second.as_slice(),
+            rows,
+            width,
+            from,
+            from + size,
+        )?;
         self.visits.push(node)?;
         self.near = Near { first, second };
         Ok(self.near.lend())

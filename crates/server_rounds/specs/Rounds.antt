@@ -28,4 +28,5 @@ pub record IsOpened (ms : List Message) (total : ℕ) : Type 0 where
 
 -- the word of a server in a run of a query with one predicate over two sums of rows: its tables at the sums, and a part of zero
 abbrev pub sum_word : View → ℕ → List ℕ → List ℕ → ℕ → ℕ
-sum_word view run first second counter = plus (plus (dot_of (view.party0 run 0) first) (dot_of (view.party1 run 0) second)) (part_of view.own view.next counter)
+sum_word view run first second counter =
+    plus (plus (dot_of (view.party0 run 0) first) (dot_of (view.party1 run 0) second)) (part_of view.own view.next counter)

@@ -58,9 +58,33 @@ impl Ready {
         self.plan.rows();
         self.plan.count();
         match server {
-            0 => sum_part(alloc, &self.plan, &self.keys.zero, run, first, second, counter),
-            1 => sum_part(alloc, &self.plan, &self.keys.one, run, first, second, counter),
-            _ => sum_part(alloc, &self.plan, &self.keys.two, run, first, second, counter),
+            0 => sum_part(
+                alloc,
+                &self.plan,
+                &self.keys.zero,
+                run,
+                first,
+                second,
+                counter,
+            ),
+            1 => sum_part(
+                alloc,
+                &self.plan,
+                &self.keys.one,
+                run,
+                first,
+                second,
+                counter,
+            ),
+            _ => sum_part(
+                alloc,
+                &self.plan,
+                &self.keys.two,
+                run,
+                first,
+                second,
+                counter,
+            ),
         }
     }
 }

@@ -11,10 +11,10 @@ run_on-requires-clause-room g c =
     let w = c.args.width in
     let at : h.start + c.loop-c.c - h.start ≡ c.loop-c.c = omega arith in
     let is : c.in_ok-lent.lent.first.now ≡ chunk_of w c.loop-c.c (h.pieces.first c.args.column) =
-        rw (c.in_ok-lent.ensures.first, i.held, i.start, at, c.requires.width) refl in
+    rw (c.in_ok-lent.ensures.first, i.held, i.start, at, c.requires.width) refl in
     let long : length (h.pieces.first c.args.column) ≡ h.rows * w = i.shelf.first c.args.column c.requires.column ∙ ap (λ (n : ℕ). h.rows * n) c.requires.width in
     let fits = chunk_fits w h.rows c.loop-c.c (vec_capacity c.args.first.now) c.args.first.now.items c.loop-c.first.items (h.pieces.first c.args.column)
-        c.in_ok-lent.lent.first.now long (omega (arith, c.requires.first_room, c.args.first.now.ok.0)) i.first is in
+    c.in_ok-lent.lent.first.now long (omega (arith, c.requires.first_room, c.args.first.now.ok.0)) i.first is in
     omega (arith, fits, i.first_room, c.loop-c.first.ok.0)
 
 pub run_on-requires-in-loop-c-clause-room : goal.run_on-requires-in-loop-c-clause-room
@@ -24,10 +24,10 @@ run_on-requires-in-loop-c-clause-room g c =
     let w = c.args.width in
     let at : h.start + c.loop-c.c - h.start ≡ c.loop-c.c = omega arith in
     let is : c.in_ok-lent.lent.second.now ≡ chunk_of w c.loop-c.c (h.pieces.second c.args.column) =
-        rw (c.in_ok-lent.ensures.second, i.held, i.start, at, c.requires.width) refl in
+    rw (c.in_ok-lent.ensures.second, i.held, i.start, at, c.requires.width) refl in
     let long : length (h.pieces.second c.args.column) ≡ h.rows * w = i.shelf.second c.args.column c.requires.column ∙ ap (λ (n : ℕ). h.rows * n) c.requires.width in
     let fits = chunk_fits w h.rows c.loop-c.c (vec_capacity c.args.second.now) c.args.second.now.items c.loop-c.second.items (h.pieces.second c.args.column)
-        c.in_ok-lent.lent.second.now long (omega (arith, c.requires.second_room, c.args.second.now.ok.0)) i.second is in
+    c.in_ok-lent.lent.second.now long (omega (arith, c.requires.second_room, c.args.second.now.ok.0)) i.second is in
     omega (arith, fits, i.second_room, c.loop-c.second.ok.0)
 
 pub loop-c-preserved : goal.loop-c-preserved
@@ -38,9 +38,9 @@ loop-c-preserved g c =
     let went = rw c.in_ok-lent.was at c.chunk.follows.holds-at-none.1 in
     let at : h.start + c.loop-c.c - h.start ≡ c.loop-c.c = omega arith in
     let near : c.in_ok-lent.lent.first.now ≡ chunk_of w c.loop-c.c (h.pieces.first c.args.column) =
-        rw (c.in_ok-lent.ensures.first, i.held, i.start, at, c.requires.width) refl in
+    rw (c.in_ok-lent.ensures.first, i.held, i.start, at, c.requires.width) refl in
     let far : c.in_ok-lent.lent.second.now ≡ chunk_of w c.loop-c.c (h.pieces.second c.args.column) =
-        rw (c.in_ok-lent.ensures.second, i.held, i.start, at, c.requires.width) refl in
+    rw (c.in_ok-lent.ensures.second, i.held, i.start, at, c.requires.width) refl in
     record {
       held = c.chunk.follows.holds-at-none.0 ∙ i.held;
       shelf = i.shelf;

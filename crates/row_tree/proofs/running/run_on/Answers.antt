@@ -12,7 +12,7 @@ loop-cell-preserved c =
     let now = c.loop-cell.sums.items in
     let x = get_or c.args.cells.now c.loop-cell.cell-index 0 in
     let sum : c.next-sum.result ≡ plus x (last_of w now (length now)) =
-        c.next-sum.ensures.sum ∙ ap (λ l. plus x (last_of w l (length l))) c.as_slice.ensures.value in
+    c.next-sum.ensures.sum ∙ ap (λ l. plus x (last_of w l (length l))) c.as_slice.ensures.value in
     record {
       cells = ap (cells_in w) (c.push_reserved.ensures.items ∙ ap (λ v. now ++ v ∷ []) sum)
           ∙ run_more w c.args.sums.now.items now c.args.cells.now c.loop-cell.cell-index x c.requires.some c.next-sum.ensures.small i.cells

@@ -17,12 +17,11 @@ invariant_of-self-then-is_ok g c =
     let good : is_ok r ≡ true = sym c.is_ok.ensures.value ∙ c.if-is_ok.true in
     let count = c.rows-rows.result in
     let near : length (h.pieces.first inside.column) ≡ count * inside.width =
-        c.rows-rows.ensures.shelf.first inside.column there ∙ (ap (λ (x : ℕ). x * h.width inside.column) (sym c.rows-rows.ensures.value) ∙ ap (λ (x : ℕ). count * x) width) in
+    c.rows-rows.ensures.shelf.first inside.column there ∙ (ap (λ (x : ℕ). x * h.width inside.column) (sym c.rows-rows.ensures.value) ∙ ap (λ (x : ℕ). count * x) width) in
     let far : length (h.pieces.second inside.column) ≡ count * inside.width =
-        c.rows-rows.ensures.shelf.second inside.column there ∙ (ap (λ (x : ℕ). x * h.width inside.column) (sym c.rows-rows.ensures.value) ∙ ap (λ (x : ℕ). count * x) width) in
+    c.rows-rows.ensures.shelf.second inside.column there ∙ (ap (λ (x : ℕ). x * h.width inside.column) (sym c.rows-rows.ensures.value) ∙ ap (λ (x : ℕ). count * x) width) in
     let first = long_after r inside.width c.reserve.new.self.items c.run_chunks-added.new.first.items (h.pieces.first inside.column) good c.run_chunks-added.ensures.first in
-    let second = long_after r inside.width c.reserve-2.new.self.items c.run_chunks-added.new.second.items (h.pieces.second inside.column) good c.run_chunks-added.ensures.second in
-    (
+    let second = long_after r inside.width c.reserve-2.new.self.items c.run_chunks-added.new.second.items (h.pieces.second inside.column) good c.run_chunks-added.ensures.second in (
       c.self.invariant.0,
       c.self.invariant.1,
       omega (arith, c.requires.few, c.rows-rows.ensures.value, old),

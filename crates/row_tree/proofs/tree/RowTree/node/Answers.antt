@@ -25,14 +25,16 @@ returns c =
     let split : (node.index + 1) * size ≡ from + size = omega arith in
     let there : from + size ≤ t.rows = omega (arith, c.requires, old, split) in
     let first = rw (same, c.as_slice.ensures.value) at c.in_ok-first.ensures in
-    let second = rw (same, c.as_slice-2.ensures.value) at c.in_ok-second.ensures in
-    (
+    let second = rw (same, c.as_slice-2.ensures.value) at c.in_ok-second.ensures in (
       (
         refl,
         λ _. tt,
-        (ap (λ (l : List Node). record { column = t.column; width = t.width; rows = t.rows; first = cells_in t.width t.first.items; second = cells_in t.width t.second.items; visits = l })
-            c.in_ok-push.ensures.items
-            ∙ ap (λ (v : Tree). record v { visits = v.visits ++ node ∷ [] }) c.self.view_is, tt),
+        (
+          ap (λ (l : List Node). record { column = t.column; width = t.width; rows = t.rows; first = cells_in t.width t.first.items; second = cells_in t.width t.second.items; visits = l })
+              c.in_ok-push.ensures.items
+              ∙ ap (λ (v : Tree). record v { visits = v.visits ++ node ∷ [] }) c.self.view_is,
+          tt,
+        ),
       ),
       record {
         after = tt;
