@@ -21,6 +21,9 @@ use Rattle.table_schema.specs.declared.widths.Widths.{Widths}
 use Rattle.transcript.specs.Laws.{Asks, HasColumns}
 use Rattle.transcript.specs.Plain.{plain}
 use Rattle.transcript.specs.Rows.{pieces_over}
+use Rattle.transcript.specs.Setup.{Sizes}
+use Rattle.visit_trace.specs.Expected.{trace_of}
+use Rattle.visit_trace.specs.Seen.{AllSeen, Grew, GrewPrefix}
 use Rattle.transcript.specs.Formulas.{setup_for}
 use Rattle.transcript.specs.Transcript.{IsPart, IsTranscript, opened_of}
 use Rattle.transcript.proofs.Held.{pieces_hold}
@@ -31,7 +34,7 @@ use Rattle.weighted_check.specs.declared.Altered.{Altered}
 use Rattle.wire_line.specs.Messages.{IsHonest}
 use Rattle.wire_line.specs.declared.message.Message.{Message}
 use Rattle.agreed_rows.specs.Agreed.{Entries, IsAgreed, Sound, first_rows}
-use Rattle.agreed_rows.specs.Answers.{Answers, IsPlainAnswer, Opens, answered_by, judged, plain_total, rows_in, setup_over}
+use Rattle.agreed_rows.specs.Answers.{AddsTrace, Answers, IsPlainAnswer, Opens, answered_by, judged, plain_total, rows_in, setup_over, sizes_over}
 use Rattle.agreed_rows.specs.declared.query.AnswerFault.{AnswerFault}
 use Rattle.agreed_rows.specs.declared.query.Answered.{Answered}
 use Rattle.agreed_rows.specs.Servers.{KeepsFirst}
@@ -82,6 +85,10 @@ pub record Asking (w : Widths) (order : List (Row × Seed)) (n : ℕ) (h0 h1 h2 
   pub keys_of : AreKeysOf keys
   pub suits : Suits w.columns w.bits query
   pub columns : HasColumns (record { rows = n; widths = keys.widths; shape = shaped keys.query })
+
+-- the sizes of what keys were made for, over so many rows
+abbrev pub sizes_at : ℕ → Asked → Sizes
+sizes_at n keys = record { rows = n; widths = keys.widths; shape = shaped keys.query }
 
 module _ (w : Widths) (order : List (Row × Seed)) (n : ℕ) (h0 h1 h2 : Held) (query : Query) (seed : Seed) (keys : Asked) (asking : Asking w order n h0 h1 h2 query seed keys) where
   abbrev rows : Entries
@@ -149,3 +156,19 @@ module _ (w : Widths) (order : List (Row × Seed)) (n : ℕ) (h0 h1 h2 : Held) (
   asked_plain ms pair key m r opens is says honest =
       subst (λ (x : Result Answered AnswerFault). IsPlainAnswer rows query x)
       (sym (judged_by pair key m r is says ∙ ap (answered_by m) (asked_plainly ms pair opens honest))) refl
+
+  -- the trace of the sizes
+  asked_sizes : sizes_at n keys ≡ sizes_over rows query
+  asked_sizes = ap (sizes_at n) asking.made ∙ ap (λ (m : ℕ). sizes_at m (record { query = query; widths = w; seed = seed })) long
+
+  pub asked_begun : (a b : AllSeen) → GrewPrefix a b (trace_of (sizes_at n keys)) → GrewPrefix a b (trace_of (sizes_over rows query))
+  asked_begun a b g = subst (λ (z : Sizes). GrewPrefix a b (trace_of z)) asked_sizes g
+
+  pub asked_trace : (a b : AllSeen) (pair : OpenedPair) (key m : ℕ) (r : Result Answered AnswerFault) → r ≡ answered_by m (checked pair.total pair.weighted key)
+      → Grew a b (trace_of (sizes_at n keys)) → AddsTrace rows query a b r
+  asked_trace a b pair key m r says g =
+      subst (λ (x : Result Answered AnswerFault). AddsTrace rows query a b x) (sym says) (by (checked pair.total pair.weighted key) (subst (λ (z : Sizes). Grew a b (trace_of z)) asked_sizes g))
+    where
+      by : (o : Result ℕ Altered) → Grew a b (trace_of (sizes_over rows query)) → AddsTrace rows query a b (answered_by m o)
+      by (Ok total) h = h
+      by (Err fault) h = h

@@ -9,9 +9,12 @@ use Rattle.server_rounds.specs.declared.opened.OpenedPair.{OpenedPair}
 use Rattle.table_schema.specs.declared.rows.Row.{Row}
 use Rattle.transcript.specs.Plain.{plain}
 use Rattle.transcript.specs.Rows.{pieces_over}
-use Rattle.transcript.specs.Setup.{Setup}
+use Rattle.transcript.specs.Setup.{Setup, Sizes}
 use Rattle.transcript.specs.Formulas.{setup_for}
 use Rattle.transcript.specs.Transcript.{IsPart, IsTranscript, opened_of}
+use Rattle.query_plan.specs.Query.{shaped}
+use Rattle.visit_trace.specs.Expected.{trace_of}
+use Rattle.visit_trace.specs.Seen.{AllSeen, Grew, GrewPrefix}
 use Rattle.weighted_check.specs.Check.{checked}
 use Rattle.weighted_check.specs.declared.Altered.{Altered}
 use Rattle.wire_line.specs.declared.message.Message.{Message}
@@ -55,6 +58,17 @@ Answers e query seed ms pair (Err (faults.Altered total weighted)) =
     Opens e query seed ms pair × (judged query seed pair ≡ Err (record { total = total; weighted = weighted }))
     × (pair ≡ record { total = total; weighted = weighted })
 Answers e query seed ms pair (Err faults.Memory) = IsPart (setup_over e query seed) ms
+
+-- the sizes of a query over the rows
+abbrev pub sizes_over : Entries → Query → Sizes
+sizes_over e query = record { rows = length e.all; widths = e.widths; shape = shaped query }
+
+-- a trace before and after a query over the rows: it grew by the trace of the sizes, also where the check refused the pair; out of
+-- memory by a prefix of that
+abbrev pub AddsTrace : Entries → Query → AllSeen → AllSeen → Result Answered AnswerFault → Type 0
+AddsTrace e query old new (Ok a) = Grew old new (trace_of (sizes_over e query))
+AddsTrace e query old new (Err (faults.Altered total weighted)) = Grew old new (trace_of (sizes_over e query))
+AddsTrace e query old new (Err faults.Memory) = GrewPrefix old new (trace_of (sizes_over e query))
 
 -- an answer is the plain one, and there is no other fault than out of memory
 abbrev pub IsPlainAnswer : Entries → Query → Result Answered AnswerFault → Type 0

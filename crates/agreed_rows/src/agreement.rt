@@ -5,6 +5,8 @@ ghost use Rattle.query_plan.specs.Query.{shaped};
 ghost use Rattle.transcript.specs.Laws.{HasColumns};
 ghost use Rattle.transcript.specs.Formulas.{setup_for};
 ghost use Rattle.transcript.specs.Transcript.{IsPart, IsTranscript, opened_of};
+ghost use Rattle.visit_trace.specs.Expected.{trace_of};
+ghost use Rattle.visit_trace.specs.Seen.{GrewBy};
 ghost use Rattle.wire_line.specs.Messages.{Went};
 ghost use Rattle.wire_line.specs.declared.message.Message.{Message};
 ghost use Rattle.agreed_rows.specs.Shelves.{AreCuts, ArePartsOf, AreRowsOf};
@@ -16,6 +18,7 @@ use scan_chunks::Shelf;
 use server_rounds::{OpenedPair, Servers, both_runs};
 use std::alloc::Global;
 use std::thread::Threads;
+use visit_trace::Trace;
 use wire_line::Wire;
 
 // Snapshots of the three servers over the same first rows.
@@ -64,7 +67,7 @@ impl Agreement {
     }
 
     // Both runs of a query over the rows, each server's shared among `workers` threads. The only error is out of memory; the
-    // first messages of the query may then have been carried.
+    // first messages of the query may then have been carried, and the trace has a prefix of its own.
     pub(crate) fn open_pair<R: Threads + Sync, W: Wire>(
         &self,
         rt: &R,
@@ -72,6 +75,7 @@ impl Agreement {
         workers: u8,
         keys: &Keys,
         wire: &mut W,
+        trace: &mut Trace,
     ) -> Result<OpenedPair, Memory>
         requires some { 0 < workers }
         requires few { (⟦<Snapshot as Shelf>⟧.held self.now.zero).rows ≤ 65536 }
@@ -89,9 +93,11 @@ impl Agreement {
             (ms : List Message) × Went W.sight wire.old ms wire.new
             × IsPart setup ms
             × IfOk result (λ pair. IsTranscript setup ms × (pair.total ≡ opened_of setup ms 0) × (pair.weighted ≡ opened_of setup ms 1)) }
+        ensures trace { let rows = (⟦<Snapshot as Shelf>⟧.held self.now.zero).rows in
+            GrewBy trace.old trace.new (trace_of (record { rows = rows; widths = keys.now.widths; shape = shaped keys.now.query })) result }
     {
         keys.shape();
         let mut shelves = self.shelves(alloc, workers)?;
-        both_runs(rt, alloc, &mut shelves, keys, wire)
+        both_runs(rt, alloc, &mut shelves, keys, wire, trace)
     }
 }

@@ -5,7 +5,7 @@ ghost use Rattle.server_rounds.specs.declared.opened.OpenedPair.{OpenedPair};
 ghost use Rattle.weighted_check.specs.Check.{checked};
 ghost use Rattle.wire_line.specs.Messages.{IsHonest, Went};
 ghost use Rattle.wire_line.specs.declared.message.Message.{Message};
-ghost use Rattle.agreed_rows.specs.Answers.{Answers, IsPlainAnswer, answered_by};
+ghost use Rattle.agreed_rows.specs.Answers.{Answers, AddsTrace, IsPlainAnswer, answered_by};
 ghost use Rattle.wire_line.specs.Sights.{HasAltered};
 
 use crate::agreed::Agreed;
@@ -14,6 +14,7 @@ use query_plan::{Query, make_keys};
 use server_rounds::OpenedPair;
 use std::alloc::Global;
 use std::thread::Threads;
+use visit_trace::Trace;
 use weighted_check::{Altered, check};
 use wire_line::Wire;
 
@@ -33,7 +34,8 @@ pub enum AnswerFault {
 
 /// Asks a query, with its seed, over the rows, each server's shared among this many workers. The answer is the plain count or sum
 /// where each message was received as it was sent; `Altered` comes only where one was not, and `Memory` at any time. Out of memory,
-/// the first messages of the query may have been carried.
+/// the first messages of the query may have been carried. What the servers see of the query is noted in the trace, the same for every
+/// query of this shape over as many rows; out of memory, a prefix of it.
 pub fn answer<R: Threads + Sync, W: Wire>(
     rt: &R,
     alloc: Global,
@@ -41,6 +43,7 @@ pub fn answer<R: Threads + Sync, W: Wire>(
     query: &Query,
     seed: &Seed,
     wire: &mut W,
+    trace: &mut Trace,
     workers: u8,
 ) -> Result<Answered, AnswerFault>
     requires suits { Suits agreed.now.widths.columns agreed.now.widths.bits query.now }
@@ -48,12 +51,16 @@ pub fn answer<R: Threads + Sync, W: Wire>(
     ensures answers { (ms : List Message) × (pair : OpenedPair) × Went W.sight wire.old ms wire.new
         × Answers agreed.now query.now seed.now ms pair result
         × (IsHonest ms → IsPlainAnswer agreed.now query.now result) }
+    ensures trace { AddsTrace agreed.now query.now trace.old trace.new result }
     ensures plain { ¬ HasAltered W.sight wire.old wire.new → IsPlainAnswer agreed.now query.now result }
 {
     let Ok(keys) = make_keys(alloc, query, &agreed.widths, seed) else {
         return Err(AnswerFault::Memory);
     };
-    match agreed.rows.open_pair(rt, alloc, workers, &keys, wire) {
+    match agreed
+        .rows
+        .open_pair(rt, alloc, workers, &keys, wire, trace)
+    {
         Err(_) => Err(AnswerFault::Memory),
         Ok(pair) => judge(agreed.rows.rows(), pair, keys.key()),
     }

@@ -1,5 +1,9 @@
-use Rattle.std.proofs.Common.{rules, refl, [], arith}
+use Rattle.std.proofs.Common.{rules, refl, subst, ℕ, [], arith}
 use Rattle.std.proofs.lemmas.Result.{IfOk-weaker}
+use Rattle.query_plan.specs.Query.{shaped}
+use Rattle.visit_trace.specs.Expected.{trace_of}
+use Rattle.visit_trace.specs.Growing.{by_stopped, prefix_none}
+use Rattle.visit_trace.specs.Seen.{GrewBy}
 use Rattle.wire_line.specs.Carried.{went_none}
 use Rattle.agreed_rows.proofs.OverRows.{all_over_same, are_shelves_of, no_part, over_same, rows_are, same_parts}
 use Rattle.agreed_rows.proofs.agreement.Agreement.open_pair.Goals as goal
@@ -39,3 +43,12 @@ returns-clause-messages g c =
       over_same k.query k.widths k.seed _ _ _ _ h.0 many columns same h.2,
       IfOk-weaker c.both_runs.result _ _ (λ pair x. (all_over_same k.query k.widths k.seed _ _ _ _ h.0 many columns same x.0, x.1, x.2)) h.3,
     )
+
+pub returns-in_err-shelves-clause-trace : goal.returns-in_err-shelves-clause-trace
+returns-in_err-shelves-clause-trace g c = by_stopped _ _ _ _ c.from_residual.ensures.0 (prefix_none _ _)
+
+pub returns-clause-trace : goal.returns-clause-trace
+returns-clause-trace g c =
+    let k = c.args.keys.now in
+    let many = rows_are _ _ _ _ c.requires.zero c.in_ok-shelves.ensures.zero in
+    subst (λ (n : ℕ). GrewBy c.args.trace.now c.both_runs.new.trace (trace_of (record { rows = n; widths = k.widths; shape = shaped k.query })) c.both_runs.result) many c.both_runs.ensures.trace
