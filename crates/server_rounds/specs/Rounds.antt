@@ -1,6 +1,7 @@
 -- The words of the three servers in a step, and what the client opens.
 use Rattle.std.specs.Prelude.{ℕ, ◌≡◌, List, length, slice_index}
-use Rattle.ring128.specs.Ring.{plus}
+use Rattle.ring128.specs.Ring.{plus, dot_of}
+use Rattle.zero_share.specs.Zero.{part_of}
 use Rattle.wire_line.specs.declared.message.Message.{Message}
 use Rattle.wire_line.specs.Messages.{message_at}
 use Rattle.scan_chunks.specs.Pieces.{Pieces}
@@ -24,3 +25,8 @@ pub record IsOpened (ms : List Message) (total : ℕ) : Type 0 where
   pub full : length ms ≡ 3
   pub sum : total
       ≡ plus (plus (slice_index (message_at ms 0).received 0) (slice_index (message_at ms 1).received 0)) (slice_index (message_at ms 2).received 0)
+
+-- the word of a server in a run of a query with one predicate over two sums of rows: its tables at the sums, and a part of zero
+abbrev pub sum_word : View → ℕ → List ℕ → List ℕ → ℕ → ℕ
+sum_word view run first second counter =
+    plus (plus (dot_of (view.party0 run 0) first) (dot_of (view.party1 run 0) second)) (part_of view.own view.next counter)
