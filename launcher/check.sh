@@ -406,9 +406,6 @@ check_no_build() {
   call help race
   has "help on race has its options" "--writers N" "$out"
   is "and is what race --help says" "$("$tree/waldo" race --help)" "${out%$'\n'}"
-  call tamper host:2
-  is "tamper, which is not built, is an unknown command" "waldo: bad word 0:2" "${out%$'\n'}:$status"
-  has "and is told so" "word 0 is 'tamper', which is no command" "$err"
   call frobnicate host:2
   is "an unknown command" "waldo: bad word 0:2" "${out%$'\n'}:$status"
   call

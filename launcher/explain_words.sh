@@ -44,15 +44,21 @@ explain_option() {
       )$command has $(listed "${known[@]}")"
   elif ! has_option "$command" "$option"; then
     tell "$command" "word $index is $(quoted "$option"), which is no option of $command$(nearest_or "$option" "${known[@]}")"
-  elif [ "$option" = --query ] && ((earlier >= 16)); then
-    tell queries "word $index is a 17th --query, and 16 are the most"
-  elif [ "$option" != --query ] && ((earlier > 0)); then
+  elif ((earlier >= 16)) && may_repeat "$command" "$option"; then
+    [ "$option" = --query ] && command=queries
+    tell "$command" "word $index is a 17th $option, and 16 are the most"
+  elif ((earlier > 0)) && ! may_repeat "$command" "$option"; then
     tell "$command" "word $index is a second $option, which may be given only once"
   elif [[ $word != *=* ]]; then
     tell "$command" "word $index is $option, the last word, and its value is missing: it takes ${taken[$option]}"
   else
     explain_value "$option" "${word#*=}"
   fi
+}
+
+# The options that may stand up to 16 times: queries, of which a command that alters messages has one, and shifts.
+may_repeat() { # command, option
+  [[ $2 == --shift || $2 == --query && $1 != tamper ]]
 }
 
 # What somebody may have meant who wrote no option.
@@ -94,6 +100,7 @@ explain_value() { # option, value
       tell schedules "in word $index $(schedule_fault "$value")"
       ;;
     --seed) tell "${words[0]}" "$start: $(seed_fault "$value")" ;;
+    --shift) tell "${words[0]}" "$start: $(shift_fault "$value")" ;;
     *) tell "${words[0]}" "$start: $(number_fault "$option" "$value")" ;;
   esac
 }
@@ -103,6 +110,24 @@ seed_fault() {
     printf 'a seed has hexadecimal digits alone, and %s is none' "$(quoted "${BASH_REMATCH[0]}")"
   else
     printf 'a seed has 64 hexadecimal digits, and this has %s' "${#1}"
+  fi
+}
+
+# A shift is M:W:A. Its numbers are cut of leading zeros before they are compared by their length.
+shift_fault() {
+  local message word amount more
+  IFS=: read -r message word amount more <<<"$1:"
+  amount=${amount#key\*}
+  if [[ $1 != *:*:* || $1 == *:*:*:* ]]; then
+    printf 'a shift is a message, a word and a number with a colon between two, as 6:0:1 or 12:0:key*1'
+  elif ! [[ $message =~ ^[0-9]{1,20}$ && $message =~ ^0*([0-9]|[1-4][0-9]|50)$ ]]; then
+    printf 'the message is a number up to 50, and %s is none' "$(quoted "$message")"
+  elif ! [[ $word =~ ^[0-9]{1,20}$ && $word =~ ^0*[0-9]{1,5}$ ]] || ((10#$word > 65535)); then
+    printf 'the word is a number up to 65535, and %s is none' "$(quoted "$word")"
+  elif ! [[ $amount =~ ^[0-9]+$ ]]; then
+    printf 'the number that is added has 1 to 39 digits, also behind key*, and %s has others' "$(quoted "$amount")"
+  else
+    printf 'the number that is added has 1 to 39 digits and is below 2^128'
   fi
 }
 

@@ -16,6 +16,7 @@ use scan_chunks::Shelf;
 use server_rounds::{Held, Ready, Servers, Trio, Way, carry_three, reshare};
 use std::alloc::Global;
 use table_schema::Aggregate;
+use visit_trace::Trace;
 use wire_line::Wire;
 
 // The products with the values, and the pairs that the servers then hold of them.
@@ -25,6 +26,7 @@ fn value_round<S: Shelf, W: Wire>(
     chain: &Held,
     shelves: &mut Servers<S>,
     wire: &mut W,
+    trace: &mut Trace,
     run: u8,
 ) -> Result<Held, Memory>
     requires run { run < 2 }
@@ -46,7 +48,7 @@ fn value_round<S: Shelf, W: Wire>(
     let zero = value_part(alloc, ready, 0, &mut shelves.zero, chain.zero(), run)?;
     let one = value_part(alloc, ready, 1, &mut shelves.one, chain.one(), run)?;
     let two = value_part(alloc, ready, 2, &mut shelves.two, chain.two(), run)?;
-    let held = reshare(alloc, wire, Trio { zero, one, two })?;
+    let held = reshare(alloc, wire, trace, Trio { zero, one, two })?;
     Ok(held)
 }
 
@@ -58,6 +60,7 @@ pub(crate) fn before_buckets<S: Shelf, W: Wire>(
     chain: Held,
     shelves: &mut Servers<S>,
     wire: &mut W,
+    trace: &mut Trace,
     run: u8,
 ) -> Result<Held, Memory>
     requires run { run < 2 }
@@ -79,21 +82,21 @@ pub(crate) fn before_buckets<S: Shelf, W: Wire>(
     match ready.aggregate() {
         Aggregate::Count => Ok(chain),
         Aggregate::Sum => {
-            let held = value_round(alloc, ready, &chain, shelves, wire, run)?;
+            let held = value_round(alloc, ready, &chain, shelves, wire, trace, run)?;
             Ok(held)
         }
     }
 }
 
 // Each server sends its words to the client, which adds up what it received.
-fn opened<W: Wire>(wire: &mut W, words: Trio) -> Result<Words, Memory>
+fn opened<W: Wire>(wire: &mut W, trace: &mut Trace, words: Trio) -> Result<Words, Memory>
     requires one { length words.one ≡ length words.zero }
     requires two { length words.two ≡ length words.zero }
     ensures { (ms : List Message) × Went W.sight wire.old ms wire.new
         × IsGroup ToClient (by_server words.zero words.one words.two) ms
         × IfOk result (λ totals. AreOpened ms totals) }
 {
-    let got = carry_three(wire, Way::ToClient, words)?;
+    let got = carry_three(wire, trace, Way::ToClient, words)?;
     let mut totals = got.zero.into_vec();
     add_into(&mut totals, got.one.as_slice());
     add_into(&mut totals, got.two.as_slice());
@@ -108,6 +111,7 @@ pub(crate) fn bucket_round<S: Shelf, W: Wire>(
     held: &Held,
     shelves: &mut Servers<S>,
     wire: &mut W,
+    trace: &mut Trace,
     run: u8,
 ) -> Result<Words, Memory>
     requires run { run < 2 }
@@ -129,6 +133,6 @@ pub(crate) fn bucket_round<S: Shelf, W: Wire>(
     let zero = bucket_part(alloc, ready, 0, &mut shelves.zero, held.zero(), column, run)?;
     let one = bucket_part(alloc, ready, 1, &mut shelves.one, held.one(), column, run)?;
     let two = bucket_part(alloc, ready, 2, &mut shelves.two, held.two(), column, run)?;
-    let totals = opened(wire, Trio { zero, one, two })?;
+    let totals = opened(wire, trace, Trio { zero, one, two })?;
     Ok(totals)
 }

@@ -17,6 +17,7 @@ use scan_chunks::Shelf;
 use server_rounds::{Ready, Servers, count_rows, run_products};
 use std::alloc::Global;
 use std::thread::Threads;
+use visit_trace::Trace;
 use wire_line::Wire;
 
 /// What the client opened in the two runs, a word a bucket.
@@ -35,6 +36,7 @@ fn run_groups<R: Threads + Sync, S: Shelf + Send, W: Wire>(
     run: u8,
     shelves: &mut Servers<S>,
     wire: &mut W,
+    trace: &mut Trace,
 ) -> Result<Words, Memory>
     requires run { run < 2 }
     requires column { column < ready.now.plan.widths.columns }
@@ -51,10 +53,10 @@ fn run_groups<R: Threads + Sync, S: Shelf + Send, W: Wire>(
         × IsRunPart ready.now.plan (bucket_ending ready.now.plan column) pieces run views ms
         × IfOk result (λ totals. AreGroups ready.now.plan column pieces run views ms totals) }
 {
-    let product = run_products(rt, alloc, ready, run, shelves, wire)?;
+    let product = run_products(rt, alloc, ready, run, shelves, wire, trace)?;
     let chain = product.into_chain();
-    let held = before_buckets(alloc, ready, chain, shelves, wire, run)?;
-    let totals = bucket_round(alloc, ready, column, &held, shelves, wire, run)?;
+    let held = before_buckets(alloc, ready, chain, shelves, wire, trace, run)?;
+    let totals = bucket_round(alloc, ready, column, &held, shelves, wire, trace, run)?;
     Ok(totals)
 }
 
@@ -87,8 +89,10 @@ pub fn group_runs<R: Threads + Sync, S: Shelf + Send, W: Wire>(
         × (t.weighted ≡ opened_groups setup column ms 1)) }
 {
     let rows = count_rows(shelves.zero.as_slice());
-    let ready = Ready::send(alloc, keys, rows, wire)?;
-    let total = run_groups(rt, alloc, &ready, column, 0, shelves, wire)?;
-    let weighted = run_groups(rt, alloc, &ready, column, 1, shelves, wire)?;
+    // What is noted here is let go: no clause speaks of it yet.
+    let mut trace = Trace::new(alloc);
+    let ready = Ready::send(alloc, keys, rows, wire, &mut trace)?;
+    let total = run_groups(rt, alloc, &ready, column, 0, shelves, wire, &mut trace)?;
+    let weighted = run_groups(rt, alloc, &ready, column, 1, shelves, wire, &mut trace)?;
     Ok(GroupTotals { total, weighted })
 }

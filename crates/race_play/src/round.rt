@@ -19,6 +19,7 @@ use ring128::Memory;
 use std::alloc::Global;
 use std::sync::Wait;
 use std::thread::Threads;
+use visit_trace::Trace;
 use waldo_table::{Pass, Table};
 use wire_line::Wire;
 
@@ -47,7 +48,8 @@ pub(crate) fn ask_line<R: Threads + Wait + Sync, W: Wire>(
     ensures plain { ¬ HasAltered W.sight wire.old wire.new
         → IfOk result (IsPlainLine table.now.widths pass.new who query.now) }
 {
-    let asked = table.ask(rt, alloc, pass, query, seed, wire, workers);
+    let mut trace = Trace::new(alloc); // a race prints no traces
+    let asked = table.ask(rt, alloc, pass, query, seed, wire, &mut trace, workers);
     line_of_ask(who, pass.floor(), query.aggregate, asked)
 }
 

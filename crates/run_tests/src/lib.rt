@@ -7,3 +7,5 @@ mod faults;
 mod races;
 #[cfg(test)]
 mod runs;
+#[cfg(test)]
+mod tampers;

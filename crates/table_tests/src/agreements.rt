@@ -10,14 +10,16 @@ use std::process::Abort;
 use std::sync::Wait;
 use std::thread::Threads;
 use table_schema::Aggregate;
+use visit_trace::Trace;
 use waldo_table::{AgreeFault, Answered, AskFault, Drawn, Pass, Prepared, Table, finish};
 use wire_line::RecordWire;
 
-// What a pass learns: by an agreement, by an ask and its number of messages, and by a look at each server.
+// What a pass learns: by an agreement, by an ask, and by a look at each server. Of an ask, the number of messages, and of the lengths
+// that are noted at server 2.
 type Learned = (
     Result<u64, AgreeFault>,
     Result<Answered, AskFault>,
-    usize,
+    [usize; 2],
     [u64; 3],
 );
 
@@ -44,13 +46,23 @@ fn tell<R: Abort + Threads + Wait + Sync>(
 {
     let rows = agree(rt, alloc, table, pass);
     let mut wire = RecordWire::new(alloc);
-    let asked = ask(rt, alloc, table, pass, Aggregate::Count, &mut wire);
+    let mut trace = Trace::new(alloc);
+    let asked = ask(
+        rt,
+        alloc,
+        table,
+        pass,
+        Aggregate::Count,
+        &mut wire,
+        &mut trace,
+    );
+    let noted = [wire.messages().len(), trace.lengths(2).len()];
     let looks = [
         table.look(rt, pass, 0),
         table.look(rt, pass, 1),
         table.look(rt, pass, 2),
     ];
-    (rows, asked, wire.messages().len(), looks)
+    (rows, asked, noted, looks)
 }
 
 // Where a draw was placed before its last placing, the place of the other pass's row, and what was learned.
@@ -135,17 +147,27 @@ fn a_server_that_lags(rt: HostRuntime) -> Result<(), Memory> {
         floor: 2,
     };
     let learned = [
-        (Ok(0), Ok(Answered { rows: 0, total: 0 }), 15, [1, 1, 0]),
-        (Err(again), Err(ask_again), 0, [2, 2, 0]),
-        (Ok(2), Ok(Answered { rows: 2, total: 1 }), 15, [2, 2, 2]),
+        (
+            Ok(0),
+            Ok(Answered { rows: 0, total: 0 }),
+            [15, 7],
+            [1, 1, 0],
+        ),
+        (Err(again), Err(ask_again), [0, 0], [2, 2, 0]),
+        (
+            Ok(2),
+            Ok(Answered { rows: 2, total: 1 }),
+            [15, 7],
+            [2, 2, 2],
+        ),
     ];
     let lag = ([true, true, false], Some(1), learned);
     assert_eq!(rt; lag_anew(&rt, rt.alloc())?, Some((0, [0, 1], lag)));
     Ok(())
 }
 
-// The place of the other pass's row, and what that pass was told before the draw was placed and after.
-type Rested = (Option<u64>, [Told; 2]);
+// The place of the other pass's row, and what that pass learned before the draw was placed and after.
+type Rested = (Option<u64>, [Learned; 2]);
 
 // A draw rests while the other pass appends a row and is told; then the draw is placed at all servers, and it is told again.
 fn place_at_last<R: Abort + Threads + Wait + Sync>(
@@ -218,8 +240,13 @@ fn a_draw_that_rests(rt: HostRuntime) -> Result<(), Memory> {
         floor: 2,
     };
     let told = [
-        (Err(again), Err(ask_again), 0, [0, 0, 0]),
-        (Ok(2), Ok(Answered { rows: 2, total: 2 }), 15, [2, 2, 2]),
+        (Err(again), Err(ask_again), [0, 0], [0, 0, 0]),
+        (
+            Ok(2),
+            Ok(Answered { rows: 2, total: 2 }),
+            [15, 7],
+            [2, 2, 2],
+        ),
     ];
     assert_eq!(rt; rest_anew(&rt, rt.alloc())?, Some((0, (Some(1), told))));
     Ok(())

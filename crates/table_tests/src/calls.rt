@@ -11,6 +11,7 @@ use std::process::Abort;
 use std::sync::Wait;
 use std::thread::Threads;
 use table_schema::{Aggregate, Kind, Row, Widths};
+use visit_trace::Trace;
 use waldo_table::{Answered, AskFault, Pass, Prepared, Table, prepare};
 use wire_line::Wire;
 
@@ -116,10 +117,11 @@ pub fn ask<R: Abort + Threads + Wait + Sync, W: Wire>(
     pass: &mut Pass,
     aggregate: Aggregate,
     wire: &mut W,
+    trace: &mut Trace,
 ) -> Result<Answered, AskFault>
     requires { IsOf table.now pass.old }
     ensures { IsOf table.now pass.new }
 {
     let query = query(rt, aggregate, table);
-    table.ask(rt, alloc, pass, &query, &seed(), wire, 2)
+    table.ask(rt, alloc, pass, &query, &seed(), wire, trace, 2)
 }

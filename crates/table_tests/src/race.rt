@@ -9,6 +9,7 @@ use std::process::Abort;
 use std::sync::Wait;
 use std::thread::{Threads, join_mut};
 use table_schema::Aggregate;
+use visit_trace::Trace;
 use waldo_table::{Answered, AskFault, Pass, Table};
 use wire_line::StraightWire;
 
@@ -79,8 +80,25 @@ fn count_twice<R: Abort + Threads + Wait + Sync>(
     ensures { IsOf table.now pass.new }
 {
     let mut wire = StraightWire::new();
-    let first = ask(rt, alloc, table, pass, Aggregate::Count, &mut wire);
-    let second = ask(rt, alloc, table, pass, Aggregate::Count, &mut wire);
+    let mut trace = Trace::new(alloc);
+    let first = ask(
+        rt,
+        alloc,
+        table,
+        pass,
+        Aggregate::Count,
+        &mut wire,
+        &mut trace,
+    );
+    let second = ask(
+        rt,
+        alloc,
+        table,
+        pass,
+        Aggregate::Count,
+        &mut wire,
+        &mut trace,
+    );
     are_fair(first, second)
 }
 
@@ -234,12 +252,29 @@ fn raced<R: Abort + Threads + Wait + Sync>(
 {
     let [first, second, third, fourth] = race(rt, alloc, table, pass);
     let mut wire = StraightWire::new();
+    let mut trace = Trace::new(alloc);
     Outcome {
         places: first | second,
         askers: third & fourth,
         floor: pass.floor(),
-        count: ask(rt, alloc, table, pass, Aggregate::Count, &mut wire),
-        sum: ask(rt, alloc, table, pass, Aggregate::Sum, &mut wire),
+        count: ask(
+            rt,
+            alloc,
+            table,
+            pass,
+            Aggregate::Count,
+            &mut wire,
+            &mut trace,
+        ),
+        sum: ask(
+            rt,
+            alloc,
+            table,
+            pass,
+            Aggregate::Sum,
+            &mut wire,
+            &mut trace,
+        ),
     }
 }
 

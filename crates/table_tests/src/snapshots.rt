@@ -10,6 +10,7 @@ use std::process::Abort;
 use std::sync::Wait;
 use std::thread::{Threads, join_mut};
 use table_schema::Aggregate;
+use visit_trace::Trace;
 use waldo_table::{AskFault, Pass, Table};
 use wire_line::{RecordWire, Shift, ShiftWire, Shifts, StraightWire, Wire};
 
@@ -44,7 +45,8 @@ fn sum<R: Abort + Threads + Sync, W: Wire>(
     requires { agreed.now.widths ≡ table.now.widths }
 {
     let query = query(rt, Aggregate::Sum, table);
-    answer(rt, alloc, agreed, &query, &seed(), wire, 2)
+    let mut trace = Trace::new(alloc);
+    answer(rt, alloc, agreed, &query, &seed(), wire, &mut trace, 2)
 }
 
 // Appends two rows more, with bucket 3 and the values 100 and 200.
@@ -105,7 +107,16 @@ fn sum_thrice<R: Abort + Threads + Wait + Sync>(
     let beside = sum_beside(rt, alloc, table, &agreed, &mut other);
     let mut wire = StraightWire::new();
     let after = sum(rt, alloc, table, &agreed, &mut wire);
-    let all = ask(rt, alloc, table, pass, Aggregate::Sum, &mut wire);
+    let mut trace = Trace::new(alloc);
+    let all = ask(
+        rt,
+        alloc,
+        table,
+        pass,
+        Aggregate::Sum,
+        &mut wire,
+        &mut trace,
+    );
     Ok((beside, after, all))
 }
 

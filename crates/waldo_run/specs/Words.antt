@@ -1,5 +1,5 @@
 -- What the command words say to this program.
-use Rattle.std.specs.Prelude.{ℕ, ◌||◌, Bool, false, bytes_eq, if◌then◌else◌, ⊤, Result, Ok, Err, List, [], ◌∷◌, codes}
+use Rattle.std.specs.Prelude.{ℕ, Bool, false, bytes_eq, if◌then◌else◌, ⊤, Result, Ok, Err, List, [], ◌∷◌, codes}
 use Rattle.waldo_words.specs.Words.{command_of}
 use Rattle.waldo_words.specs.declared.command.Command.{Command}
 use Rattle.waldo_words.specs.declared.command.Command.TheVariants as commands
@@ -8,7 +8,7 @@ use Rattle.waldo_words.specs.declared.faults.WordFault.TheVariants.{Word}
 
 -- the name of a command that is not built yet
 abbrev pub is_unbuilt : List ℕ → Bool
-is_unbuilt word = bytes_eq word (codes "race") || bytes_eq word (codes "tamper")
+is_unbuilt word = bytes_eq word (codes "race")
 
 -- a command that is built; another one is refused as an unknown command
 abbrev pub only_built : Result Command WordFault → Result Command WordFault
@@ -18,7 +18,7 @@ only_built (Ok (commands.Replay common schedule)) = Ok (commands.Replay common s
 only_built (Ok (commands.Make common number rows)) = Ok (commands.Make common number rows)
 only_built (Ok (commands.Trace common)) = Ok (commands.Trace common)
 only_built (Ok (commands.Race common writers askers rounds)) = Err (Word 0)
-only_built (Ok (commands.Tamper common shifts)) = Err (Word 0)
+only_built (Ok (commands.Tamper common shifts)) = Ok (commands.Tamper common shifts)
 
 -- the words begin with the name of a command that is not built yet
 abbrev pub begin_unbuilt : List (List ℕ) → Bool
@@ -36,4 +36,4 @@ IsBuilt (commands.Replay common schedule) = ⊤
 IsBuilt (commands.Make common number rows) = ⊤
 IsBuilt (commands.Trace common) = ⊤
 IsBuilt (commands.Race common writers askers rounds) = ⊥
-IsBuilt (commands.Tamper common shifts) = ⊥
+IsBuilt (commands.Tamper common shifts) = ⊤

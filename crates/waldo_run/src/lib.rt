@@ -24,6 +24,7 @@ mod refusals;
 mod reply;
 mod seen;
 mod still;
+mod tamper;
 mod task;
 mod top;
 mod trace;

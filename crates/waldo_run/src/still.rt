@@ -4,12 +4,12 @@ ghost use Rattle.report_lines.specs.Line.{text_of};
 ghost use Rattle.schedule_play.specs.History.{Done};
 ghost use Rattle.wire_line.specs.Lists.{SomeRose};
 ghost use Rattle.waldo_run.specs.Run.{Answers, Breaks, HasSchedule, IsUnchanged, Puts, ReadsNothing, Refuses, Replies, Runs, plain_reply};
+ghost use Rattle.waldo_run.specs.Tampered.{AltersNothing, CarriedBy, UnalteredBy};
 ghost use Rattle.waldo_run.specs.Tasks.{AreWidthsIn, common_in, reads_input, rows_in, rows_made};
 ghost use Rattle.waldo_run.specs.Words.{IsBuilt, command_in};
 ghost use Rattle.waldo_words.specs.Legal.{IsLegal};
 ghost use Rattle.waldo_words.specs.declared.command.Command.TheVariants as commands;
 ghost use Rattle.fault_count.specs.Streams.{HasFailed, change};
-ghost use Rattle.schedule_play.specs.Wires.{Carried, Unaltered};
 
 use crate::finish::finish;
 use crate::made::made_rows;
@@ -52,7 +52,8 @@ fn answer_bytes<R: Threads + Sync, W: Wire>(
     requires wires { length wires.old.items ≡ 16 }
     ensures wires { length wires.new.items ≡ 16 }
     ensures answers { Answers command.now (rows_in (common_in command.now) bytes.items)
-        (Carried W.sight wires.old.items wires.new.items) (Unaltered W.sight wires.old.items wires.new.items) result }
+        (CarriedBy W.sight (Ok command.now) wires.old.items wires.new.items)
+        (UnalteredBy W.sight (Ok command.now) wires.old.items wires.new.items) result }
 {
     let common = common_of(command);
     let widths = common.schema.widths();
@@ -78,9 +79,10 @@ fn answer_input<R: Threads + Sync, S: Source, W: Wire>(
     requires wires { length wires.old.items ≡ 16 }
     ensures wires { length wires.new.items ≡ 16 }
     ensures reply { IfOk result (λ reply. Replies (Ok command.now) (change S.sight source.old source.new)
-        (Carried W.sight wires.old.items wires.new.items) (Unaltered W.sight wires.old.items wires.new.items) reply) }
+        (CarriedBy W.sight (Ok command.now) wires.old.items wires.new.items)
+        (UnalteredBy W.sight (Ok command.now) wires.old.items wires.new.items) reply) }
     ensures memory { OnErr result (Breaks (Ok command.now) (change S.sight source.old source.new)
-        (Carried W.sight wires.old.items wires.new.items)) }
+        (CarriedBy W.sight (Ok command.now) wires.old.items wires.new.items)) }
 {
     match read_all(alloc, source) {
         Ok(bytes) => answer_bytes(rt, alloc, command, bytes, wires),
@@ -102,7 +104,8 @@ fn answer_made<R: Threads + Sync, W: Wire>(
     requires wires { length wires.old.items ≡ 16 }
     ensures wires { length wires.new.items ≡ 16 }
     ensures answers { Answers command.now (Ok (rows_made command.now))
-        (Carried W.sight wires.old.items wires.new.items) (Unaltered W.sight wires.old.items wires.new.items) result }
+        (CarriedBy W.sight (Ok command.now) wires.old.items wires.new.items)
+        (UnalteredBy W.sight (Ok command.now) wires.old.items wires.new.items) result }
 {
     let widths = common_of(command).schema.widths();
     let rows = made_rows(alloc, &widths, number, count)?;
@@ -122,9 +125,10 @@ fn answer<R: Threads + Sync, S: Source, W: Wire>(
     requires wires { length wires.old.items ≡ 16 }
     ensures wires { length wires.new.items ≡ 16 }
     ensures reply { IfOk result (λ reply. Replies (Ok command.now) (change S.sight source.old source.new)
-        (Carried W.sight wires.old.items wires.new.items) (Unaltered W.sight wires.old.items wires.new.items) reply) }
+        (CarriedBy W.sight (Ok command.now) wires.old.items wires.new.items)
+        (UnalteredBy W.sight (Ok command.now) wires.old.items wires.new.items) reply) }
     ensures memory { OnErr result (Breaks (Ok command.now) (change S.sight source.old source.new)
-        (Carried W.sight wires.old.items wires.new.items)) }
+        (CarriedBy W.sight (Ok command.now) wires.old.items wires.new.items)) }
     ensures unread { ReadsNothing (Ok command.now) → IsUnchanged (change S.sight source.old source.new) }
 {
     match command {
@@ -146,9 +150,10 @@ fn reply_in<R: Threads + Sync, S: Source, W: Wire>(
     requires wires { length wires.old.items ≡ 16 }
     ensures wires { length wires.new.items ≡ 16 }
     ensures reply { IfOk result (λ reply. Replies (command_in (map string_bytes words.now)) (change S.sight source.old source.new)
-        (Carried W.sight wires.old.items wires.new.items) (Unaltered W.sight wires.old.items wires.new.items) reply) }
+        (CarriedBy W.sight (command_in (map string_bytes words.now)) wires.old.items wires.new.items)
+        (UnalteredBy W.sight (command_in (map string_bytes words.now)) wires.old.items wires.new.items) reply) }
     ensures memory { OnErr result (Breaks (command_in (map string_bytes words.now)) (change S.sight source.old source.new)
-        (Carried W.sight wires.old.items wires.new.items)) }
+        (CarriedBy W.sight (command_in (map string_bytes words.now)) wires.old.items wires.new.items)) }
     ensures unread { ReadsNothing (command_in (map string_bytes words.now)) → IsUnchanged (change S.sight source.old source.new) }
 {
     match read_command(alloc, words) {
@@ -172,17 +177,19 @@ pub fn run_still<R: Threads + Sync, S: Source, K: Sink, W: Wire>(
     // Out of memory nothing is put, and the first messages of the command may have been carried.
     ensures memory { result ≡ 6 → IsUnchanged (change K.sight sink.old sink.new) }
     ensures broken { result ≡ 6 → Breaks (command_in (map string_bytes words.now)) (change S.sight source.old source.new)
-        (Carried W.sight wires.old.items wires.new.items) }
+        (CarriedBy W.sight (command_in (map string_bytes words.now)) wires.old.items wires.new.items) }
     // Else the source was met in one of four ways, each answer's messages went over its actor's wire, and the reply to the words, to what
     // was read and to what the answers opened was put: the replies of the core to the command's steps, in order. An answer whose messages
     // were received as they were sent is the plain one, whatever was altered before; and where no wire was altered the reply is the plain
     // one to what was read, whether or not the source reports its bytes.
     ensures run { result ≢ 6 → Runs (command_in (map string_bytes words.now)) (change S.sight source.old source.new)
-        (Carried W.sight wires.old.items wires.new.items) (Unaltered W.sight wires.old.items wires.new.items)
+        (CarriedBy W.sight (command_in (map string_bytes words.now)) wires.old.items wires.new.items)
+        (UnalteredBy W.sight (command_in (map string_bytes words.now)) wires.old.items wires.new.items)
         (change K.sight sink.old sink.new) result }
     // Where the source reports its bytes, no read failed and nothing was altered, the reply is the plain one, a function of the
     // words and of these bytes.
-    ensures plain { result ≢ 6 → ¬ HasFailed S.sight source.old source.new → ¬ SomeRose W.sight wires.old.items wires.new.items
+    ensures plain { result ≢ 6 → AltersNothing (command_in (map string_bytes words.now))
+        → ¬ HasFailed S.sight source.old source.new → ¬ SomeRose W.sight wires.old.items wires.new.items
         → IfSome (S.sight.bytes source.old) (λ bytes.
         Puts (plain_reply (command_in (map string_bytes words.now)) bytes) (change K.sight sink.old sink.new) result) }
     // A refused word, and nothing was read; or a step of a schedule without a case.
@@ -191,7 +198,9 @@ pub fn run_still<R: Threads + Sync, S: Source, K: Sink, W: Wire>(
     ensures read_fault { result ≡ 3 → HasFailed S.sight source.old source.new }
     ensures write_fault { result ≡ 4 → HasFailed K.sight sink.old sink.new }
     ensures input { result ≡ 5 → IfSome (S.sight.bytes source.old) (Refuses (command_in (map string_bytes words.now))) }
-    ensures altered { result ≡ 7 → SomeRose W.sight wires.old.items wires.new.items }
+    // A message was altered, by a wire or by the command itself.
+    ensures altered { result ≡ 7 → ¬ AltersNothing (command_in (map string_bytes words.now))
+        ⊎ SomeRose W.sight wires.old.items wires.new.items }
 {
     schedule_play::laws::asked_in_order();
     schedule_play::laws::asked_plainly();

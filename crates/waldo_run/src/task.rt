@@ -3,7 +3,7 @@ ghost use Rattle.std.specs.Prelude.{◌≡◌, ◌≢◌, ◌≤◌, All, IfOk, 
 ghost use Rattle.schedule_play.specs.History.{Done};
 ghost use Rattle.schedule_play.specs.Plays.{Plays, seen};
 ghost use Rattle.schedule_play.specs.Tasks.{IsSetting};
-ghost use Rattle.schedule_play.specs.Wires.{Carried, Unaltered};
+ghost use Rattle.waldo_run.specs.Tampered.{CarriedBy, UnalteredBy};
 ghost use Rattle.table_schema.specs.Widths.{Holds};
 ghost use Rattle.waldo_run.specs.Replies.{IsReplyOf, checked_answer, reported, rows_reply};
 ghost use Rattle.waldo_run.specs.Run.{AskedOver, BegunOver};
@@ -13,6 +13,7 @@ ghost use Rattle.waldo_words.specs.Legal.{IsLegal};
 
 use crate::reply::{Reply, single_line};
 use crate::seen::all_noted;
+use crate::tamper::tamper;
 use crate::trace::traced;
 use report_lines::Line;
 use ring128::Memory;
@@ -64,7 +65,8 @@ fn play<R: Threads + Sync, W: Wire>(
     requires wires { length wires.old.items ≡ 16 }
     ensures wires { length wires.new.items ≡ 16 }
     ensures plays { Plays widths.now (task_over command.now rows.now)
-        (Carried W.sight wires.old.items wires.new.items) (Unaltered W.sight wires.old.items wires.new.items) result }
+        (CarriedBy W.sight (Ok command.now) wires.old.items wires.new.items)
+        (UnalteredBy W.sight (Ok command.now) wires.old.items wires.new.items) result }
 {
     match command {
         Command::Ask(common) => ask(rt, alloc, &setting(common, widths, rows), wires),
@@ -79,7 +81,16 @@ fn play<R: Threads + Sync, W: Wire>(
                 wires,
             )
         }
-        Command::Race { .. } | Command::Tamper { .. } => unreachable!(),
+        Command::Tamper { common, shifts } => {
+            tamper(
+                rt,
+                alloc,
+                &setting(common, widths, rows),
+                shifts.as_slice(),
+                &mut wires[0],
+            )
+        }
+        Command::Race { .. } => unreachable!(),
     }
 }
 
@@ -128,11 +139,12 @@ pub(crate) fn answer_rows<R: Threads + Sync, W: Wire>(
     requires few { let common = common_in command.now in length rows.now ≤ common.capacity }
     requires wires { length wires.old.items ≡ 16 }
     ensures wires { length wires.new.items ≡ 16 }
-    ensures asked { (history : List Done) × Carried W.sight wires.old.items wires.new.items history
+    ensures asked { (history : List Done) × CarriedBy W.sight (Ok command.now) wires.old.items wires.new.items history
         × OnErr result (BegunOver command.now history rows.now)
-        × IfOk result (λ reply. AskedOver (Unaltered W.sight wires.old.items wires.new.items) command.now history rows.now
+        × IfOk result (λ reply.
+        AskedOver (UnalteredBy W.sight (Ok command.now) wires.old.items wires.new.items) command.now history rows.now
         × (reply ≡ rows_reply (checked_answer history) command.now rows.now)
-        × (((actor : ℕ) → Unaltered W.sight wires.old.items wires.new.items actor) → reply.status ≢ 7)) }
+        × (((actor : ℕ) → UnalteredBy W.sight (Ok command.now) wires.old.items wires.new.items actor) → reply.status ≢ 7)) }
 {
     let played = play(rt, alloc, command, widths, rows, wires);
     let reply = reply_of(alloc, played)?;

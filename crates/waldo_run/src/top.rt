@@ -4,7 +4,7 @@ ghost use Rattle.wire_line.specs.Lists.{SomeRose};
 ghost use Rattle.waldo_run.specs.Races.{Races, begin_race, command_at};
 ghost use Rattle.waldo_run.specs.Run.{Breaks, HasSchedule, IsUnchanged, Puts, ReadsNothing, Refuses, Runs, plain_reply};
 ghost use Rattle.fault_count.specs.Streams.{HasFailed, change};
-ghost use Rattle.schedule_play.specs.Wires.{Carried, Unaltered};
+ghost use Rattle.waldo_run.specs.Tampered.{AltersNothing, CarriedBy, UnalteredBy};
 ghost use Rattle.race_play.specs.Askers.{CarriedEach};
 
 use crate::race::run_race;
@@ -37,13 +37,16 @@ pub fn run<R: Threads + Wait + Sync, S: Source, K: Sink, W: Wire + Send, G: Gate
     // Every command but `race`: as `run_still` says.
     ensures broken { begin_race (map string_bytes words.now) ≡ false → result ≡ 6
         → Breaks (command_at (map string_bytes words.now)) (change S.sight source.old source.new)
-        (Carried W.sight wires.old.items wires.new.items) }
+        (CarriedBy W.sight (command_at (map string_bytes words.now)) wires.old.items wires.new.items) }
     ensures run { begin_race (map string_bytes words.now) ≡ false → result ≢ 6
         → Runs (command_at (map string_bytes words.now)) (change S.sight source.old source.new)
-        (Carried W.sight wires.old.items wires.new.items) (Unaltered W.sight wires.old.items wires.new.items)
+        (CarriedBy W.sight (command_at (map string_bytes words.now)) wires.old.items wires.new.items)
+        (UnalteredBy W.sight (command_at (map string_bytes words.now)) wires.old.items wires.new.items)
         (change K.sight sink.old sink.new) result }
-    ensures plain { begin_race (map string_bytes words.now) ≡ false → result ≢ 6 → ¬ HasFailed S.sight source.old source.new
-        → ¬ SomeRose W.sight wires.old.items wires.new.items → IfSome (S.sight.bytes source.old) (λ bytes.
+    ensures plain { begin_race (map string_bytes words.now) ≡ false → result ≢ 6
+        → AltersNothing (command_at (map string_bytes words.now))
+        → ¬ HasFailed S.sight source.old source.new → ¬ SomeRose W.sight wires.old.items wires.new.items
+        → IfSome (S.sight.bytes source.old) (λ bytes.
         Puts (plain_reply (command_at (map string_bytes words.now)) bytes) (change K.sight sink.old sink.new) result) }
     // A race: the source was met in one of its ways, each asker's messages went over its wire, and a report was put that a race over the
     // input's rows may come to with these messages; or the line of what was refused was put, and the wires are as they were.
@@ -56,7 +59,8 @@ pub fn run<R: Threads + Wait + Sync, S: Source, K: Sink, W: Wire + Send, G: Gate
     ensures read_fault { result ≡ 3 → HasFailed S.sight source.old source.new }
     ensures write_fault { result ≡ 4 → HasFailed K.sight sink.old sink.new }
     ensures input { result ≡ 5 → IfSome (S.sight.bytes source.old) (Refuses (command_at (map string_bytes words.now))) }
-    ensures altered { result ≡ 7 → SomeRose W.sight wires.old.items wires.new.items }
+    ensures altered { result ≡ 7 → ¬ AltersNothing (command_at (map string_bytes words.now))
+        ⊎ SomeRose W.sight wires.old.items wires.new.items }
 {
     if begin_race(words) {
         run_race(rt, alloc, words, source, sink, wires, gate)

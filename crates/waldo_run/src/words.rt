@@ -14,7 +14,7 @@ use waldo_words::{Command, WordFault, read_words};
 fn is_unbuilt(word: &str) -> bool
     ensures { result ≡ is_unbuilt word.now }
 {
-    word == "race" || word == "tamper"
+    word == "race"
 }
 
 // Whether the words begin with such a name.
@@ -45,10 +45,12 @@ fn only_built(command: Command) -> Result<Command, WordFault>
     ensures built { IfOk result IsBuilt }
 {
     match command {
-        Command::Ask(_) | Command::Replay { .. } | Command::Make { .. } | Command::Trace(_) => {
-            Ok(command)
-        }
-        Command::Race { .. } | Command::Tamper { .. } => Err(WordFault::Word { index: 0 }),
+        Command::Ask(_)
+        | Command::Replay { .. }
+        | Command::Make { .. }
+        | Command::Trace(_)
+        | Command::Tamper { .. } => Ok(command),
+        Command::Race { .. } => Err(WordFault::Word { index: 0 }),
     }
 }
 

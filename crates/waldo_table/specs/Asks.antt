@@ -5,9 +5,11 @@ use Rattle.query_plan.specs.declared.query.Query.{Query}
 use Rattle.server_rounds.specs.declared.opened.OpenedPair.{OpenedPair}
 use Rattle.table_schema.specs.declared.widths.Widths.{Widths}
 use Rattle.transcript.specs.Transcript.{IsPart}
+use Rattle.visit_trace.specs.Expected.{trace_of}
+use Rattle.visit_trace.specs.Seen.{AllSeen, Grew, GrewPrefix}
 use Rattle.wire_line.specs.declared.message.Message.{Message}
 use Rattle.agreed_rows.specs.Agreed.{Entries}
-use Rattle.agreed_rows.specs.Answers.{Opens, judged, plain_total, setup_over}
+use Rattle.agreed_rows.specs.Answers.{Opens, judged, plain_total, setup_over, sizes_over}
 use Rattle.agreed_rows.specs.declared.query.Answered.{Answered}
 use Rattle.waldo_table.specs.Tables.{Agrees, Lacks, PassView}
 use Rattle.waldo_table.specs.declared.faults.AskFault.{AskFault}
@@ -30,6 +32,15 @@ Asked w p q query seed ms pair (Err (ask.Again k had least)) = (ms ≡ []) × (q
 Asked w p q query seed ms pair (Err ask.Memory) =
     ((ms ≡ []) × (q.floor ≡ p.floor)) ⊎ (Agrees w p q (rows_of w q) × IsPart (setup_over (rows_of w q) query seed) ms)
 
+-- a trace before and after an ask: it grew by the trace of the query's sizes, also where the check refused the pair; where a server
+-- lacked a row nothing was added; out of memory a prefix of that trace
+abbrev pub AsksTrace : Widths → PassView → Query → AllSeen → AllSeen → Result Answered AskFault → Type 0
+AsksTrace w q query old new (Ok a) = Grew old new (trace_of (sizes_over (rows_of w q) query))
+AsksTrace w q query old new (Err (ask.Altered total weighted)) = Grew old new (trace_of (sizes_over (rows_of w q) query))
+AsksTrace w q query old new (Err (ask.Again k had least)) = new ≡ old
+AsksTrace w q query old new (Err ask.Memory) = GrewPrefix old new (trace_of (sizes_over (rows_of w q) query))
+
+-- an answer is the plain one over the rows of the floor
 abbrev pub IsPlainAsk : Widths → PassView → Query → Result Answered AskFault → Type 0
 IsPlainAsk w q query (Ok a) = a.total ≡ plain_total (rows_of w q) query
 IsPlainAsk w q query (Err (ask.Altered total weighted)) = ⊥

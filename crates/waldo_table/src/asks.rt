@@ -5,7 +5,7 @@ ghost use Rattle.server_rounds.specs.declared.opened.OpenedPair.{OpenedPair};
 ghost use Rattle.ticket_place.specs.Sights.{IsSound};
 ghost use Rattle.wire_line.specs.Messages.{IsHonest, Went};
 ghost use Rattle.wire_line.specs.declared.message.Message.{Message};
-ghost use Rattle.waldo_table.specs.Asks.{Asked, IsNeverAgain, IsPlainAsk};
+ghost use Rattle.waldo_table.specs.Asks.{Asked, AsksTrace, IsNeverAgain, IsPlainAsk};
 ghost use Rattle.waldo_table.specs.Tables.{Grows, IsCovered, IsOf};
 ghost use Rattle.wire_line.specs.Sights.{HasAltered};
 
@@ -18,6 +18,7 @@ use query_plan::Query;
 use std::alloc::Global;
 use std::sync::Wait;
 use std::thread::Threads;
+use visit_trace::Trace;
 use wire_line::Wire;
 
 impl Table {
@@ -26,7 +27,7 @@ impl Table {
     ///
     /// After `Again` the pass is as `agree` left it and the wire has carried nothing; after `Altered` the pass is as after an
     /// agreement. After `Memory` it is one of the two: no agreement and nothing carried, or an agreement and the first
-    /// messages of the query.
+    /// messages of the query. The trace grows by what the servers see of the query, which its sizes say; `Again` adds nothing.
     pub fn ask<R: Threads + Wait + Sync, W: Wire>(
         &self,
         rt: &R,
@@ -35,6 +36,7 @@ impl Table {
         query: &Query,
         seed: &Seed,
         wire: &mut W,
+        trace: &mut Trace,
         workers: u8,
     ) -> Result<Answered, AskFault>
         requires pass { IsOf self.now pass.old }
@@ -49,12 +51,13 @@ impl Table {
             × (IsHonest ms → IsPlainAsk self.now.widths pass.new query.now result) }
         ensures plain { ¬ HasAltered W.sight wire.old wire.new → IsPlainAsk self.now.widths pass.new query.now result }
         ensures never { IsCovered pass.old → IsNeverAgain result }
+        ensures trace { AsksTrace self.now.widths pass.new query.now trace.old trace.new result }
     {
         let agreed = match self.agree(rt, alloc, pass) {
             Ok(agreed) => agreed,
             Err(fault) => return Err(fault.asked()),
         };
-        match answer(rt, alloc, &agreed, query, seed, wire, workers) {
+        match answer(rt, alloc, &agreed, query, seed, wire, trace, workers) {
             Ok(answered) => Ok(answered),
             Err(AnswerFault::Altered { total, weighted }) => {
                 Err(AskFault::Altered { total, weighted })

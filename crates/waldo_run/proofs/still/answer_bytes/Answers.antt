@@ -2,14 +2,15 @@ use Rattle.std.proofs.Common.{rules, ◌≡◌, inl, inr}
 use Rattle.std.specs.Prelude.{Ok}
 use Rattle.waldo_run.specs.Tasks.{common_in, rows_in}
 use Rattle.waldo_run.proofs.Begun.{fault_answers, rows_answers}
-use Rattle.waldo_run.proofs.Wires.{still_wires}
+use Rattle.waldo_run.specs.Tampered.{shifts_of}
+use Rattle.waldo_run.proofs.Tampering.{still_carried}
 use Rattle.waldo_run.proofs.still.answer_bytes.Goals as goal
 
 pub returns-in-Err-clause-answers : goal.returns-in-Err-clause-answers
 returns-in-Err-clause-answers g c =
     let command = c.args.command.now in
     fault_answers command c.widths-widths.result (search rules) c.in-Err.fault (rows_in (common_in command) c.args.bytes.items) _ _
-    (still_wires g.W.Wire.sight g.met.W.Wire.none_passes c.args.wires.now.items)
+    (still_carried g.W.Wire.sight g.met.W.Wire.none_passes (shifts_of (Ok c.args.command.now)) c.args.wires.now.items)
     (λ some. elim c.in-Err.ensures.exact [ inl memory ↦ absurd (some memory) | inr read ↦ search rules ])
     c.refused_rows.result c.refused_rows.ensures
 

@@ -1,7 +1,8 @@
 use Rattle.std.proofs.lemmas.Result.{IfOk-weaker}
 use Rattle.std.specs.Prelude.{Ok}
 use Rattle.waldo_run.proofs.Begun.{nothing_breaks, on_err, unread_replies, whole_breaks, whole_replies}
-use Rattle.waldo_run.proofs.Wires.{still_wires}
+use Rattle.waldo_run.specs.Tampered.{shifts_of}
+use Rattle.waldo_run.proofs.Tampering.{still_carried}
 use Rattle.waldo_run.proofs.still.answer_input.Goals as goal
 
 pub returns-in-Ok-clause-reply : goal.returns-in-Ok-clause-reply
@@ -14,11 +15,11 @@ returns-in-Ok-clause-memory g c =
 
 pub returns-in-Err-clause-reply : goal.returns-in-Err-clause-reply
 returns-in-Err-clause-reply g c =
-    let none = still_wires g.W.Wire.sight g.met.W.Wire.none_passes c.args.wires.now.items in
+    let none = still_carried g.W.Wire.sight g.met.W.Wire.none_passes (shifts_of (Ok c.args.command.now)) c.args.wires.now.items in
     IfOk-weaker c.unread_input.result _ _
     (λ reply e. unread_replies c.args.command.now c.in-Err.fault _ _ _ reply c.requires.reads c.in-Err.ensures.fault none e) c.unread_input.ensures
 
 pub returns-in-Err-clause-memory : goal.returns-in-Err-clause-memory
 returns-in-Err-clause-memory g c =
     on_err c.unread_input.result _
-    (nothing_breaks (Ok c.args.command.now) _ _ (still_wires g.W.Wire.sight g.met.W.Wire.none_passes c.args.wires.now.items))
+    (nothing_breaks (Ok c.args.command.now) _ _ (still_carried g.W.Wire.sight g.met.W.Wire.none_passes (shifts_of (Ok c.args.command.now)) c.args.wires.now.items))

@@ -7,13 +7,14 @@ use Rattle.waldo_words.specs.declared.command.Command.TheVariants as commands
 use Rattle.waldo_run.specs.Made.{made_row, made_rows}
 use Rattle.waldo_run.specs.Tasks.{bits_of, common_in, rows_made}
 use Rattle.waldo_run.proofs.Begun.{none_answers, rows_answers}
-use Rattle.waldo_run.proofs.Wires.{still_wires}
+use Rattle.waldo_run.specs.Tampered.{shifts_of}
+use Rattle.waldo_run.proofs.Tampering.{still_carried}
 use Rattle.waldo_run.proofs.still.answer_made.Goals as goal
 
 pub returns-in_err-rows-clause-answers : goal.returns-in_err-rows-clause-answers
 returns-in_err-rows-clause-answers g c =
     none_answers c.args.command.now c.widths-widths.result (search rules) (Ok (rows_made c.args.command.now)) _ _
-    (still_wires g.W.Wire.sight g.met.W.Wire.none_passes c.args.wires.now.items) c.from_residual.result (search rules)
+    (still_carried g.W.Wire.sight g.met.W.Wire.none_passes (shifts_of (Ok c.args.command.now)) c.args.wires.now.items) c.from_residual.result (search rules)
 
 pub answer_rows-requires-clause-few : goal.answer_rows-requires-clause-few
 answer_rows-requires-clause-few g c =

@@ -1,15 +1,15 @@
 use Rattle.std.proofs.Common.{rules}
 use Rattle.std.proofs.lemmas.Result.{IfOk-weaker}
 use Rattle.waldo_run.proofs.Begun.{nothing_breaks, on_err, refused_replies, refused_words}
-use Rattle.waldo_run.proofs.Wires.{still_wires}
+use Rattle.waldo_run.proofs.Tampering.{still_carried}
 use Rattle.waldo_run.proofs.still.reply_in.Goals as goal
 
 pub returns-in-Err-clause-reply : goal.returns-in-Err-clause-reply
 returns-in-Err-clause-reply g c =
-    let none = still_wires g.W.Wire.sight g.met.W.Wire.none_passes c.args.wires.now.items in
+    let none = still_carried g.W.Wire.sight g.met.W.Wire.none_passes _ c.args.wires.now.items in
     IfOk-weaker c.refused_words.result _ _
     (λ reply e. refused_replies _ _ _ _ _ reply (refused_words _ _ e.1 c.in-Err.ensures.exact) (search rules) none e.0) c.refused_words.ensures
 
 pub returns-in-Err-clause-memory : goal.returns-in-Err-clause-memory
 returns-in-Err-clause-memory g c =
-    on_err c.refused_words.result _ (nothing_breaks _ _ _ (still_wires g.W.Wire.sight g.met.W.Wire.none_passes c.args.wires.now.items))
+    on_err c.refused_words.result _ (nothing_breaks _ _ _ (still_carried g.W.Wire.sight g.met.W.Wire.none_passes _ c.args.wires.now.items))
