@@ -1,7 +1,6 @@
-use crate::faults::{AMPLE, Trial, tried};
 use report_lines::MemorySink;
 use ring128::Memory;
-use row_source::SureSource;
+use row_source::{MemorySource, SureSource};
 use std::alloc::Global;
 use std::process::Abort;
 use std::test::Fail;
@@ -11,7 +10,10 @@ use wire_line::{RecordWire, Shift, ShiftWire, Shifts, StraightWire, Wire};
 
 pub(crate) const INPUT: &str = "host,value\n3,10\n1,20\n3,5\n";
 
-pub(crate) const COUNT: &str = "ask|host:2|--query|count host=3";
+const COUNT: &str = "ask|host:2|--query|count host=3";
+
+// A schedule whose step prints no line.
+const NOTHING_SAID: &str = "replay|host:2|--query|count host=3|--schedule|f0";
 
 const TIME: &str = "ask|time:8@1700000000/3600|--query|count time=1700000000";
 
@@ -312,7 +314,7 @@ fn record_wires(alloc: Global) -> Result<Vec<RecordWire>, Memory> {
 }
 
 // Sixteen wires that keep their messages, of which the first adds each amount to the first word of a message.
-pub(crate) fn shift_wires(
+fn shift_wires(
     alloc: Global,
     amounts: &[(u64, u128)],
 ) -> Result<Vec<ShiftWire<RecordWire>>, Memory> {
@@ -333,32 +335,66 @@ pub(crate) fn shift_wires(
     Ok(wires)
 }
 
-// The status and the text of a run over these wires, without a fault.
+// The status and the text of a run over these wires, of whose source and sink the reads and puts with these numbers fail.
 fn runs<R: Abort + Threads + Sync, W: Wire>(
     rt: &R,
     alloc: Global,
     case: &Case,
     wires: &mut Vec<W>,
+    reads: &[u64],
+    puts: &[u64],
 ) -> Result<(), Memory> {
     let (words, input, status, text) = *case;
-    let trial = Trial {
-        words,
-        input,
-        reads: &[],
-        room: AMPLE,
-        puts: &[],
+    let list = words_of(alloc, words)?;
+    let mut source = MemorySource::new(alloc, input.as_bytes(), reads)?;
+    let mut sink = MemorySink::new(alloc, 1000, puts)?;
+    assert_eq!(rt; wires.len(), 16);
+    assert_eq!(rt;
+        run_still(rt, alloc, &list, &mut source, &mut sink, wires),
         status,
-        text,
-    };
-    tried(rt, alloc, &trial, wires)
+        "{words}"
+    );
+    assert!(rt; sink.bytes() == text.as_bytes(), "{words}");
+    Ok(())
+}
+
+fn straight<R: Abort + Threads + Sync>(
+    rt: &R,
+    alloc: Global,
+    case: &Case,
+    reads: &[u64],
+    puts: &[u64],
+) -> Result<(), Memory> {
+    let mut wires = straight_wires(alloc)?;
+    runs(rt, alloc, case, &mut wires, reads, puts)
 }
 
 #[test]
 fn answers_and_refusals(rt: HostRuntime) -> Result<(), Fail> {
-    let alloc = rt.alloc();
     for case in &CASES {
-        let mut wires = straight_wires(alloc).ok().ok_or("memory")?;
-        runs(&rt, alloc, case, &mut wires).ok().ok_or("memory")?;
+        straight(&rt, rt.alloc(), case, &[], &[])
+            .ok()
+            .ok_or("memory")?;
+    }
+    Ok(())
+}
+
+#[test]
+fn faults(rt: HostRuntime) -> Result<(), Fail> {
+    let alloc = rt.alloc();
+    let count = (COUNT, INPUT, 0, "ask 0 rows 3 count 2\n");
+    let cases: [(Case, &[u64], &[u64]); 6] = [
+        ((COUNT, INPUT, 3, "waldo: read fault\n"), &[1], &[]),
+        (count, &[2], &[]), // nothing is read after the end
+        ((COUNT, INPUT, 4, ""), &[], &[0]),
+        (count, &[], &[1]), // the text is put in one piece
+        ((NOTHING_SAID, "host,value\n", 4, ""), &[], &[0]), // and so is an empty one
+        (("ask|host:9", INPUT, 2, ""), &[0], &[0]),
+    ];
+    for (case, reads, puts) in &cases {
+        straight(&rt, alloc, case, reads, puts)
+            .ok()
+            .ok_or("memory")?;
     }
     Ok(())
 }
@@ -371,7 +407,7 @@ fn lengths<R: Abort + Threads + Sync>(
     lengths: &[usize],
 ) -> Result<(), Memory> {
     let mut wires = record_wires(alloc)?;
-    runs(rt, alloc, case, &mut wires)?;
+    runs(rt, alloc, case, &mut wires, &[], &[])?;
     assert_eq!(rt; wires.len(), 16);
     let messages = wires[0].messages();
     assert_eq!(rt; messages.len(), lengths.len());
@@ -478,7 +514,9 @@ fn alterations(rt: HostRuntime) -> Result<(), Fail> {
     ];
     for (case, amounts) in &cases {
         let mut wires = shift_wires(alloc, amounts).ok().ok_or("memory")?;
-        runs(&rt, alloc, case, &mut wires).ok().ok_or("memory")?;
+        runs(&rt, alloc, case, &mut wires, &[], &[])
+            .ok()
+            .ok_or("memory")?;
     }
     Ok(())
 }
