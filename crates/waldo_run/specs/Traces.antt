@@ -1,33 +1,15 @@
 -- What `trace` prints: how much each server saw of each query, from numbers that are not secret.
-use Rattle.std.specs.Prelude.{ℕ, ◌+◌, ◌-◌, ◌*◌, ◌≤◌, List, [], ◌∷◌, ◌++◌}
-use Rattle.query_plan.specs.KeyMessages.{message_length}
+use Rattle.std.specs.Prelude.{ℕ, ◌+◌, ◌≤◌, List, [], ◌∷◌, ◌++◌}
 use Rattle.query_plan.specs.declared.query.Query.{Query}
 use Rattle.report_lines.specs.declared.lines.Line.{Line}
 use Rattle.report_lines.specs.declared.lines.Line.TheVariants as lines
-use Rattle.scan_chunks.specs.Pieces.{chunks_of}
-use Rattle.table_schema.specs.declared.shapes.Aggregate.{Aggregate}
-use Rattle.table_schema.specs.declared.shapes.Aggregate.TheVariants.{Count, Sum}
 use Rattle.table_schema.specs.declared.shapes.Shape.{Shape}
+use Rattle.visit_trace.specs.Counts.{visits_over, words_over}
 use Rattle.waldo_run.specs.declared.seen.Counts.{Counts}
 use Rattle.waldo_run.specs.declared.seen.Noted.{Noted}
 
--- how many columns of values a query reads
-abbrev pub value_columns : Aggregate → ℕ
-value_columns Count = 0
-value_columns Sum = 1
-
--- the visits of a query over n rows at each server: in each of its two runs all chunks of the predicates' columns and of the
--- values that it reads
-abbrev pub visits_over : ℕ → Shape → ℕ
-visits_over n shape = 2 * (chunks_of n * (shape.count + value_columns shape.aggregate))
-
--- the words that each server sends or receives for a query over n rows of columns of these bits: its key message; and in each run,
--- for the bits of each predicate and for each product, n words out and n words in, and one word to the client
-abbrev pub words_over : List ℕ → ℕ → Shape → ℕ
-words_over bits n shape = message_length shape bits + 2 * (2 * n * (2 * shape.count - 1) + 1)
-
 -- what is seen of a query is the same at each server, and rests on the bits of the columns, the number of rows and the query's shape
--- alone
+-- alone: as many visits and words as the trace of these sizes has
 abbrev pub noted_over : List ℕ → ℕ → Shape → Noted
 noted_over bits n shape =
     let counts : Counts = record { visits = visits_over n shape; words = words_over bits n shape } in

@@ -3,7 +3,8 @@ ghost use Rattle.std.specs.Prelude.{◌≡◌, ◌≤◌, ◌^◌, All, IfOk, ma
 ghost use Rattle.query_plan.specs.KeyMessages.{message_length};
 ghost use Rattle.query_plan.specs.PredicateKeys.{length_of};
 ghost use Rattle.query_plan.specs.Query.{shaped};
-ghost use Rattle.waldo_run.specs.Traces.{HasFew, noted_over, value_columns};
+ghost use Rattle.visit_trace.specs.Counts.{value_columns};
+ghost use Rattle.waldo_run.specs.Traces.{HasFew, noted_over};
 
 use query_plan::Query;
 use ring128::Memory;
