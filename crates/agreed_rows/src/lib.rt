@@ -11,7 +11,7 @@
 //! ```text
 //! let agreed = Agreed::of(&widths, &sight, zero.fix(alloc)?, one.fix(alloc)?, two.fix(alloc)?); // 2, 2 and 1 rows
 //! println!(rt; "{} row", agreed.rows())?; // 1 row
-//! match answer(&rt, alloc, &agreed, &query, &seed, &mut wire, 4) {
+//! match answer(&rt, alloc, &agreed, &query, &seed, &mut wire, &mut trace, 4) {
 //!     Ok(Answered { rows, total }) => println!(rt; "{total} over {rows} rows")?,
 //!     Err(AnswerFault::Altered { total, weighted }) => println!(rt; "altered: {total}, {weighted}")?,
 //!     Err(AnswerFault::Memory) => println!(rt; "out of memory")?,

@@ -14,7 +14,7 @@
 //! use server_rounds::{Servers, both_runs};
 //!
 //! let mut servers = Servers { zero, one, two };
-//! let pair = both_runs(&rt, alloc, &mut servers, &keys, &mut wire)?;
+//! let pair = both_runs(&rt, alloc, &mut servers, &keys, &mut wire, &mut trace)?;
 //! // Where nothing was altered: pair.total is the answer, and pair.weighted is keys.key() times it.
 //! ```
 #![tactic(auto)]

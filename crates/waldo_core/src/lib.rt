@@ -8,14 +8,14 @@
 //!
 //! ```text
 //! let mut machine = Machine::new(alloc, widths, 4, 1)?;
-//! machine.step(&rt, alloc, Event::Draw { actor: 0, row, seed }, &mut wire)?; // Drew { place: 0 }
+//! machine.step(&rt, alloc, Event::Draw { actor: 0, row, seed }, &mut wire, &mut trace)?; // Drew { place: 0 }
 //! for server in 0..3 {
-//!     machine.step(&rt, alloc, Event::Place { actor: 0, server }, &mut wire)?; // Placed
+//!     machine.step(&rt, alloc, Event::Place { actor: 0, server }, &mut wire, &mut trace)?; // Placed
 //! }
 //! for _ in 0..3 {
-//!     machine.step(&rt, alloc, Event::Fix { actor: 1 }, &mut wire)?; // Fixed, Fixed, Agreed { rows: 1 }
+//!     machine.step(&rt, alloc, Event::Fix { actor: 1 }, &mut wire, &mut trace)?; // Fixed, Fixed, Agreed { rows: 1 }
 //! }
-//! machine.step(&rt, alloc, Event::Answer { actor: 1, query, seed }, &mut wire)?; // Answered { rows: 1, .. }
+//! machine.step(&rt, alloc, Event::Answer { actor: 1, query, seed }, &mut wire, &mut trace)?; // Answered { rows: 1, .. }
 //! ```
 #![tactic(auto)]
 

@@ -23,7 +23,7 @@
 //! let prepared = prepare(alloc, &widths, &row, &seed)?;
 //! let place = table.append(rt, &mut mine, prepared)?;  // Full where the pass has no draw left
 //! match table.agree(rt, alloc, &mut mine) {
-//!     Ok(agreed) => answer(rt, alloc, &agreed, &query, &query_seed, &mut wire, workers)?,
+//!     Ok(agreed) => answer(rt, alloc, &agreed, &query, &query_seed, &mut wire, &mut trace, workers)?,
 //!     Err(AgreeFault::Again { server, had, floor }) => .., // the server has `had` of the `floor` rows: later
 //!     Err(AgreeFault::Memory) => ..,
 //! }
