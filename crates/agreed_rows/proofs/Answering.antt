@@ -86,7 +86,7 @@ pub record Asking (w : Widths) (order : List (Row × Seed)) (n : ℕ) (h0 h1 h2 
   pub suits : Suits w.columns w.bits query
   pub columns : HasColumns (record { rows = n; widths = keys.widths; shape = shaped keys.query })
 
--- the sizes of what keys were made for, over so many rows
+-- the sizes of what keys were made for, over this many rows
 abbrev pub sizes_at : ℕ → Asked → Sizes
 sizes_at n keys = record { rows = n; widths = keys.widths; shape = shaped keys.query }
 

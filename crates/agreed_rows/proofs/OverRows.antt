@@ -26,7 +26,7 @@ use Rattle.agreed_rows.specs.Shelves.{ArePartsOf, AreRowsOf}
 
 -- ---- one server's shelves
 
--- the parts of a whole shelf of so many rows are shelves of these rows
+-- the parts of a whole shelf of n rows are shelves of these rows
 pub are_shelves : (w : Widths) (n : ℕ) (whole : Held) (parts : List Held) → AreRowsOf w n whole → ArePartsOf whole parts → AreShelves w n parts
 are_shelves w n whole parts rows of = record {
   count = sym ((of.rows 0 (omega arith)).count) ∙ rows.rows;
@@ -36,7 +36,7 @@ are_shelves w n whole parts rows of = record {
   order = subst (λ (s : ℕ). GoOn s parts) rows.start of.order;
 }
 
--- the same for so many rows as the first server's shelves have
+-- the parts have as many rows as the whole shelf
 pub are_shelves_of : (w : Widths) (n m : ℕ) (whole : Held) (parts : List Held) → AreRowsOf w n whole → ArePartsOf whole parts → m ≡ n → AreShelves w m parts
 are_shelves_of w n m whole parts rows of same = subst (λ (k : ℕ). AreShelves w k parts) (sym same) (are_shelves w n whole parts rows of)
 
@@ -77,7 +77,7 @@ all_over_same query w seed m n pieces other ms many columns same all = record {
 
 -- ---- the rows of the order
 
--- a shelf that keeps the first rows has so many rows
+-- a shelf that keeps the first n rows has n rows
 pub are_rows : (w : Widths) (k : ℕ) (order : List (Row × Seed)) (n : ℕ) (h : Held) → KeepsFirst w k order n h → AreRowsOf w n h
 are_rows w k order n h keeps = record {
   rows = keeps.keeps.rows ∙ length-take-le n order keeps.few;

@@ -30,7 +30,7 @@ pub record Leads {W : Type 0} (sight : Sight W)
   pub advances : Advances w s style stage xs history end
   pub calm : ((actor : ℕ) → Unaltered sight before after actor) → end.altered ≡ stage.altered
 
--- the first step without a case, by its number, where the first one has number t; or some first steps, and want of memory
+-- the first step without a case, by its number, where the first one has number t; or some first steps, and then it was out of memory
 abbrev pub EndsAt : Widths → Setting → Style → ℕ → Stage → List Step → List Done → PlayFault → Type 0
 EndsAt w s style t stage xs history (NotAllowed index) = IsHistory w s style stage xs history × (length history < length xs) × (index ≡ t + length history)
 EndsAt w s style t stage xs history Memory = Breaks w s style stage xs history

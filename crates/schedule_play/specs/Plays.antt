@@ -19,7 +19,7 @@ abbrev pub EndsWith : Played → Result Stage ℕ → Type 0
 EndsWith p (Ok stage) = (p.report ≡ stage.lines) × (p.altered ≡ stage.altered)
 EndsWith p (Err t) = ⊥
 
--- All steps were done and give this report; or a step has no case, the first one with this number; or for want of memory some first
+-- All steps were done and give this report; or a step has no case, the first one with this number; or, out of memory, some first
 -- steps were done, the last of which may have sent just the first of its messages.
 abbrev pub Ended : Widths → Task → List Done → Result Played PlayFault → Type 0
 Ended w task history (Ok p) = HasHistory w task history × EndsWith p (played (opened_in history) task)

@@ -56,7 +56,7 @@ actor_in (steps.Look actor server) = actor
 actor_in (steps.Fix actor) = actor
 actor_in (steps.Answer actor query) = actor
 
--- each actor of these steps that there is has one of so many wires
+-- each actor of these steps that there is has one of this many wires
 abbrev pub HaveWires : ℕ → List Step → Type 0
 HaveWires wires xs = All (λ (x : Step). actor_in x < 16 → actor_in x < wires) xs
 

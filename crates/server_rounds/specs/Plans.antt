@@ -36,7 +36,7 @@ pub record AreZeros (keys : ThreeKeys) (zero one two : ZeroSeeds) : Type 0 where
 abbrev pub views_of : ThreeKeys → ℕ → View
 views_of keys = by_server (view_from keys.zero) (view_from keys.one) (view_from keys.two)
 
--- of a query that keys were made for, over so many rows: its sizes, the key words for each server, and what a server reads from words
+-- of a query that keys were made for, over this many rows: its sizes, the key words for each server, and what a server reads from words
 abbrev pub sizes_for : Asked → ℕ → Sizes
 sizes_for asked rows = record { rows = rows; widths = asked.widths; shape = shaped asked.query }
 

@@ -39,7 +39,7 @@ pub struct Bits {
 
 impl Bits {
     /// The product with the bits: the servers multiply their shares row by row and send each other their words. For the first
-    /// predicate it is its bits, and no message is carried. The only error is want of memory; the first of these messages may
+    /// predicate it is its bits, and no message is carried. The only error is out of memory; the first of these messages may
     /// then have been carried, and the first lengths noted.
     pub fn product<R: Threads + Sync, W: Wire>(
         self,

@@ -3,7 +3,7 @@
 //! total and run 1 the weighted total. A query of P predicates has 3 + 12 P messages.
 //!
 //! The messages that it appends to a wire are a transcript as the crate `transcript` defines it, whatever the wire alters;
-//! after want of memory they are the first ones of it. It never looks into a message that it only carries, and tests no total.
+//! out of memory, they are the first ones of it. It never looks into a message that it only carries, and tests no total.
 //! Which chunks of its shelves each server visits follows from the shape of the query and the number of the rows alone.
 //!
 //! A run goes from state to state, and no other order can be written: `Ready::bits`, `Bits::product`, then for each further

@@ -39,7 +39,7 @@ pub struct Product {
 
 impl Product {
     /// The bits of the next predicate, with what the servers read when the run began. Each server visits each chunk of the
-    /// predicate's column once, rising. The only error is want of memory; the first of these messages may then have been
+    /// predicate's column once, rising. The only error is out of memory; the first of these messages may then have been
     /// carried, and the first of these visits made.
     pub fn bits<R: Threads + Sync, S: Shelf + Send, W: Wire>(
         self,
@@ -111,7 +111,7 @@ impl Product {
 
     /// The opening, with what the servers read when the run began: each server sends its share of the count, or of the sum, to
     /// the client, which adds up what it received. For a sum each server visits each chunk of the value's column once, rising; for
-    /// a count it visits none. The only error is want of memory; the first of these messages may then have been carried, and
+    /// a count it visits none. The only error is out of memory; the first of these messages may then have been carried, and
     /// the first of these visits made.
     pub fn reveal<R: Threads + Sync, S: Shelf + Send, W: Wire>(
         self,

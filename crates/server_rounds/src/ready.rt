@@ -45,8 +45,8 @@ pub struct Ready {
 }
 
 impl Ready {
-    /// Carries the three key messages of a query over so many rows, from the client to the servers, and lets each server read
-    /// what it received. The only error is want of memory; the first of these messages may then have been carried.
+    /// Carries the three key messages of a query over `rows` rows, from the client to the servers, and lets each server read
+    /// what it received. The only error is out of memory; the first of these messages may then have been carried.
     pub fn send<W: Wire>(
         alloc: Global,
         keys: &Keys,
@@ -122,7 +122,7 @@ impl Ready {
     }
 
     /// The pairs of a server's rows at a column, row after row; the value's column is the last one. Each chunk of the column is
-    /// visited once, rising. The only error is want of memory; each shelf's visits are then the first of its own.
+    /// visited once, rising. The only error is out of memory; each shelf's visits are then the first of its own.
     pub fn cells<S: Shelf>(
         &self,
         alloc: Global,
@@ -142,7 +142,7 @@ impl Ready {
     }
 
     /// The bits of the first predicate in run 0 or 1: the servers scan their shelves and send each other their words. Each
-    /// server visits each chunk of the predicate's column once, rising. The only error is want of memory; the first of these
+    /// server visits each chunk of the predicate's column once, rising. The only error is out of memory; the first of these
     /// messages may then have been carried, and the first of these visits made.
     pub fn bits<R: Threads + Sync, S: Shelf + Send, W: Wire>(
         &self,

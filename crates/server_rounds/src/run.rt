@@ -98,7 +98,7 @@ fn next_predicate<R: Threads + Sync, S: Shelf + Send, W: Wire>(
 }
 
 /// The bits and the products of a run, for all its predicates, however the run then ends. Each server visits the predicates'
-/// columns in order, each chunk of a column once, rising. The only error is want of memory; the messages carried by then, and
+/// columns in order, each chunk of a column once, rising. The only error is out of memory; the messages carried by then, and
 /// the visits of each shelf, are the first ones of the run.
 pub fn run_products<R: Threads + Sync, S: Shelf + Send, W: Wire>(
     rt: &R,
@@ -171,7 +171,7 @@ fn run_once<R: Threads + Sync, S: Shelf + Send, W: Wire>(
 /// Both runs of a query over the rows at three servers, through a wire: run 0 opens the total, and run 1, with the weights of the
 /// keys, the weighted total. The shelves have the columns that the keys were made for, and the same number of rows at each
 /// server, at most 65,536. In each run a server visits the predicates' columns in order, and for a sum then the value's column,
-/// each chunk of a column once, rising. The only error is want of memory; the messages carried by then, and the visits of each
+/// each chunk of a column once, rising. The only error is out of memory; the messages carried by then, and the visits of each
 /// shelf, are the first ones of the query.
 ///
 /// Where a wire alters messages, and all altered ones have one server as their sender or receiver, the two openings are what the

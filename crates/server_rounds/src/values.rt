@@ -40,7 +40,7 @@ fn inner_of_shelf<S: Shelf>(
 }
 
 /// A server's part of the sum of the values of its rows, with a pair a row: the sum of the local products. Each chunk of the values is
-/// visited once, rising. The only error is want of memory; each shelf's visits are then the first of its own.
+/// visited once, rising. The only error is out of memory; each shelf's visits are then the first of its own.
 pub(crate) fn inner_of_values<S: Shelf>(
     value: u8,
     first: &[u128],

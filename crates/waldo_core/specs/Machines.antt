@@ -25,7 +25,7 @@ pub record Seen : Type 0 where
 abbrev pub new_machine : Widths → ℕ → Seen
 new_machine w capacity = record { widths = w; capacity = capacity; core = empty_core }
 
--- when no machine is made: it would have this many cells, which is too many or none; want of memory is free
+-- when no machine is made: it would have this many cells, which is too many or none; out of memory may come at any time
 abbrev pub HasOpenFault : Widths → ℕ → OpenFault → Type 0
 HasOpenFault w capacity (open_faults.Cells had) = (¬ Fits (column_bits w) capacity) × (had ≡ cells_of (column_bits w) capacity)
 HasOpenFault w capacity open_faults.Memory = ⊤
@@ -43,7 +43,7 @@ abbrev pub HasNoCase : Seen → Event → Type 0
 HasNoCase m event = (¬ Suited m.widths event) ⊎ ((pair : OpenedPair) → step m.capacity m.core event pair ≡ None)
 
 -- An event that was done: its query is legal, its messages were carried, and core and reply are those of the step with the pair that
--- they opened. An event that is not allowed has no case. Then, and for want of memory, the machine is as before.
+-- they opened. An event that is not allowed has no case. Then, and out of memory, the machine is as before.
 abbrev pub Stepped : Seen → Event → List Message → OpenedPair → Seen → Result Reply StepFault → Type 0
 Stepped old event ms pair new (Ok reply) =
     Suited old.widths event × Carries old.widths old.core event ms pair
