@@ -169,7 +169,7 @@ fn a_server_that_lags(rt: HostRuntime) -> Result<(), Memory> {
 // The place of the other pass's row, and what that pass learned before the draw was placed and after.
 type Rested = (Option<u64>, [Learned; 2]);
 
-// A draw rests while the other pass appends a row and is told; then the draw is placed at all servers, and it is told again.
+// A draw rests while the other pass appends a row and learns; then the draw is placed at all servers, and it learns again.
 fn place_at_last<R: Abort + Threads + Wait + Sync>(
     rt: &R,
     alloc: Global,
@@ -239,7 +239,7 @@ fn a_draw_that_rests(rt: HostRuntime) -> Result<(), Memory> {
         had: 0,
         floor: 2,
     };
-    let told = [
+    let learned = [
         (Err(again), Err(ask_again), [0, 0], [0, 0, 0]),
         (
             Ok(2),
@@ -248,6 +248,6 @@ fn a_draw_that_rests(rt: HostRuntime) -> Result<(), Memory> {
             [2, 2, 2],
         ),
     ];
-    assert_eq!(rt; rest_anew(&rt, rt.alloc())?, Some((0, (Some(1), told))));
+    assert_eq!(rt; rest_anew(&rt, rt.alloc())?, Some((0, (Some(1), learned))));
     Ok(())
 }
