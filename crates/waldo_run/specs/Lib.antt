@@ -1,3 +1,4 @@
+pub mod Headline
 pub mod Made
 pub mod Races
 pub mod Replies

@@ -2,12 +2,15 @@
 ghost use Rattle.std.specs.Prelude.{◌≡◌, ◌≢◌, ◌≤◌, ◌⊎◌, ℕ, List, true, All, map, string_bytes, Ok, IfOk, OnErr, IfSome, IsErr, length};
 ghost use Rattle.report_lines.specs.Line.{text_of};
 ghost use Rattle.schedule_play.specs.History.{Done};
+ghost use Rattle.table_schema.specs.declared.rows.Row.{Row};
 ghost use Rattle.wire_line.specs.Lists.{SomeRose};
+ghost use Rattle.waldo_run.specs.Headline.{AsksOver, plain_answers};
 ghost use Rattle.waldo_run.specs.Run.{Answers, Breaks, HasSchedule, IsUnchanged, Puts, ReadsNothing, Refuses, Replies, Runs, plain_reply};
 ghost use Rattle.waldo_run.specs.Tampered.{AltersNothing, CarriedBy, UnalteredBy};
 ghost use Rattle.waldo_run.specs.Tasks.{AreWidthsIn, common_in, reads_input, rows_in, rows_made};
 ghost use Rattle.waldo_run.specs.Words.{IsBuilt, command_in};
 ghost use Rattle.waldo_words.specs.Legal.{IsLegal};
+ghost use Rattle.waldo_words.specs.declared.command.Command.{Command};
 ghost use Rattle.waldo_words.specs.declared.command.Command.TheVariants as commands;
 ghost use Rattle.fault_count.specs.Streams.{HasFailed, change};
 
@@ -174,6 +177,12 @@ pub fn run_still<R: Threads + Sync, S: Source, K: Sink, W: Wire>(
 ) -> u8
     requires wires { length wires.old.items ≡ 16 }
     ensures wires { length wires.new.items ≡ 16 }
+    // The headline: the words say `ask` or `make`, these are the rows, no read failed and no wire was altered. Then, unless out of memory,
+    // the plain answer of each query over all rows was put, with status 0, or a prefix of it where the put failed, with status 4.
+    ensures asked { result ≢ 6 → ¬ HasFailed S.sight source.old source.new → ¬ SomeRose W.sight wires.old.items wires.new.items
+        → (command : Command) (rows : List Row) → command_in (map string_bytes words.now) ≡ Ok command
+        → AsksOver command (S.sight.bytes source.old) rows
+        → Puts (plain_answers (common_in command).queries rows) (change K.sight sink.old sink.new) result }
     // Out of memory nothing is put, and the first messages of the command may have been carried.
     ensures memory { result ≡ 6 → IsUnchanged (change K.sight sink.old sink.new) }
     ensures broken { result ≡ 6 → Breaks (command_in (map string_bytes words.now)) (change S.sight source.old source.new)

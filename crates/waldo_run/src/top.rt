@@ -1,8 +1,12 @@
 //! The top call: `race`, and every other command.
-ghost use Rattle.std.specs.Prelude.{◌≡◌, ◌≢◌, ◌⊎◌, true, false, map, string_bytes, IfSome, IsErr, length};
+ghost use Rattle.std.specs.Prelude.{◌≡◌, ◌≢◌, ◌⊎◌, true, false, List, map, string_bytes, Ok, IfSome, IsErr, length};
+ghost use Rattle.table_schema.specs.declared.rows.Row.{Row};
 ghost use Rattle.wire_line.specs.Lists.{SomeRose};
+ghost use Rattle.waldo_run.specs.Headline.{AsksOver, plain_answers};
 ghost use Rattle.waldo_run.specs.Races.{Races, begin_race, command_at};
 ghost use Rattle.waldo_run.specs.Run.{Breaks, HasSchedule, IsUnchanged, Puts, ReadsNothing, Refuses, Runs, plain_reply};
+ghost use Rattle.waldo_run.specs.Tasks.{common_in};
+ghost use Rattle.waldo_words.specs.declared.command.Command.{Command};
 ghost use Rattle.fault_count.specs.Streams.{HasFailed, change};
 ghost use Rattle.waldo_run.specs.Tampered.{AltersNothing, CarriedBy, UnalteredBy};
 ghost use Rattle.race_play.specs.Askers.{CarriedEach};
@@ -32,6 +36,12 @@ pub fn run<R: Threads + Wait + Sync, S: Source, K: Sink, W: Wire + Send, G: Gate
 ) -> u8
     requires wires { length wires.old.items ≡ 16 }
     ensures wires { length wires.new.items ≡ 16 }
+    // The headline, as of `run_still`: the plain answer of each query of `ask` or `make` over all rows.
+    ensures asked { begin_race (map string_bytes words.now) ≡ false → result ≢ 6 → ¬ HasFailed S.sight source.old source.new
+        → ¬ SomeRose W.sight wires.old.items wires.new.items
+        → (command : Command) (rows : List Row) → command_at (map string_bytes words.now) ≡ Ok command
+        → AsksOver command (S.sight.bytes source.old) rows
+        → Puts (plain_answers (common_in command).queries rows) (change K.sight sink.old sink.new) result }
     // Out of memory nothing is put.
     ensures memory { result ≡ 6 → IsUnchanged (change K.sight sink.old sink.new) }
     // Every command but `race`: as `run_still` says.

@@ -1,7 +1,11 @@
 use Rattle.std.proofs.Common.{inr}
-use Rattle.std.specs.Prelude.{IfSome, map, string_bytes}
+use Rattle.std.specs.Prelude.{◌≡◌, List, IfSome, Ok, map, string_bytes}
+use Rattle.table_schema.specs.declared.rows.Row.{Row}
+use Rattle.waldo_words.specs.declared.command.Command.{Command}
+use Rattle.waldo_run.specs.Headline.{AsksOver, plain_answers}
 use Rattle.waldo_run.specs.Run.{Breaks, Puts, Runs, plain_reply}
 use Rattle.waldo_run.specs.Tampered.{AltersNothing, CarriedBy, UnalteredBy}
+use Rattle.waldo_run.specs.Tasks.{common_in}
 use Rattle.waldo_run.proofs.Racing.{by_other}
 use Rattle.waldo_run.proofs.top.run.Goals as goal
 use Rattle.fault_count.specs.Streams.{change}
@@ -30,3 +34,9 @@ returns-else-begin_race-clause-broken g c = λ other six.
 
 pub returns-then-begin_race-clause-altered : goal.returns-then-begin_race-clause-altered
 returns-then-begin_race-clause-altered g c = λ seven. inr (c.run_race.ensures.altered seven)
+
+pub returns-else-begin_race-clause-asked : goal.returns-else-begin_race-clause-asked
+returns-else-begin_race-clause-asked g c = λ other done sure still.
+    by_other (λ command. (said : Command) (rows : List Row) → command ≡ Ok said → AsksOver said (g.S.Source.sight.bytes c.args.source.now) rows
+    → Puts (plain_answers (common_in said).queries rows) (change g.K.Sink.sight c.args.sink.now c.run_still.new.sink) c.run_still.result)
+    (map string_bytes c.args.words.now) other (c.run_still.ensures.asked done sure still)
