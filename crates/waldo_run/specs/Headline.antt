@@ -10,7 +10,8 @@ use Rattle.waldo_run.specs.Made.{made_rows}
 use Rattle.waldo_run.specs.Replies.{Reply}
 use Rattle.waldo_run.specs.Tasks.{bits_of, rows_in}
 
--- The rows that a command asks over: `ask` those of an input that is not too long, `make` those that it makes. No other command has such rows.
+-- The rows that a command asks over: `ask` those of an input that is not too long, `make` those that it makes. No other command has
+-- such rows.
 abbrev pub AsksOver : Command → Option (List ℕ) → List Row → Type 0
 AsksOver (commands.Ask common) (Some bytes) rows = (length bytes ≤ most_bytes) × (rows_in common bytes ≡ Ok rows)
 AsksOver (commands.Make common number count) input rows = rows ≡ made_rows (bits_of common) number count

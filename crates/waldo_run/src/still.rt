@@ -202,7 +202,8 @@ pub fn run_still<R: Threads + Sync, S: Source, K: Sink, W: Wire>(
         → IfSome (S.sight.bytes source.old) (λ bytes.
         Puts (plain_reply (command_in (map string_bytes words.now)) bytes) (change K.sight sink.old sink.new) result) }
     // A refused word, and nothing was read; or a step of a schedule without a case.
-    ensures refused { result ≡ 2 → IsErr (command_in (map string_bytes words.now)) ⊎ HasSchedule (command_in (map string_bytes words.now)) }
+    ensures refused { result ≡ 2
+        → IsErr (command_in (map string_bytes words.now)) ⊎ HasSchedule (command_in (map string_bytes words.now)) }
     ensures unread { ReadsNothing (command_in (map string_bytes words.now)) → IsUnchanged (change S.sight source.old source.new) }
     ensures read_fault { result ≡ 3 → HasFailed S.sight source.old source.new }
     ensures write_fault { result ≡ 4 → HasFailed K.sight sink.old sink.new }

@@ -64,7 +64,8 @@ pub fn run<R: Threads + Wait + Sync, S: Source, K: Sink, W: Wire + Send, G: Gate
         → Races (command_at (map string_bytes words.now)) (change S.sight source.old source.new)
         (CarriedEach W.sight wires.old.items wires.new.items) (change K.sight sink.old sink.new) result }
     // Whatever the command is, each status has its cause.
-    ensures refused { result ≡ 2 → IsErr (command_at (map string_bytes words.now)) ⊎ HasSchedule (command_at (map string_bytes words.now)) }
+    ensures refused { result ≡ 2
+        → IsErr (command_at (map string_bytes words.now)) ⊎ HasSchedule (command_at (map string_bytes words.now)) }
     ensures unread { ReadsNothing (command_at (map string_bytes words.now)) → IsUnchanged (change S.sight source.old source.new) }
     ensures read_fault { result ≡ 3 → HasFailed S.sight source.old source.new }
     ensures write_fault { result ≡ 4 → HasFailed K.sight sink.old sink.new }
