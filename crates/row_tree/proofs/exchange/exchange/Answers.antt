@@ -1,4 +1,5 @@
 use Rattle.std.proofs.Common.{◌≡◌, ◌∙◌, ◌+◌, ◌*◌, ◌++◌, ◌<◌, ◌≤◌, arith, length, length-append, sym, ap, append-nil, [], refl, rules, ℕ, List}
+use Rattle.std.proofs.lemmas.Result.{IfOk-from_err}
 use Rattle.wire_line.specs.declared.message.Message.{Message}
 use Rattle.wire_line.specs.Carried.{went_both}
 use Rattle.server_rounds.specs.Plans.{views_of}
@@ -37,7 +38,7 @@ returns-in_err-weighted g c =
       (h.0 ++ a.0) ++ b.0,
       went_both g.W.Wire.sight g.met.W.Wire.both_pass _ _ _ (h.0 ++ a.0) b.0 both b.1,
       run_part s (h.0 ++ a.0) b.0 1 (omega arith) six part second,
-      search rules,
+      IfOk-from_err c.from_residual-in_err-weighted.result _ c.from_residual-in_err-weighted.ensures.0,
     )
 
 pub returns : goal.returns
