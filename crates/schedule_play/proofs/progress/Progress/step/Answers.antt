@@ -44,15 +44,15 @@ returns-in_err-count-in-Ok-clause-stops g c =
     (sym (c.from.ensures ∙ c.actor_in-actor.ensures)) (omega (arith, c.requires.wires (omega (arith, c.actor_in-actor.ensures, c.if-actor-ge-ACTORS.false)), c.from.ensures, c.actor_in-actor.ensures)) c.index_mut-wire.ensures.value
     h.2 (λ still. c.in-Ok.ensures.quiet (event_quiet s stage c.args.step c.in-Some.event e still)) (λ honest. (h.4 honest).0))
 
-pub returns-in_ok-count-in-Ok-clause-ready : goal.returns-in_ok-count-in-Ok-clause-ready
-returns-in_ok-count-in-Ok-clause-ready g c =
+pub returns-in-Ok-clause-ready : goal.returns-in-Ok-clause-ready
+returns-in-Ok-clause-ready g c =
     let h = c.in-Ok.ensures.stepped in
     let k = c.in_ok-count-in-Ok.ensures in
     ready_after c.args.setting.now.widths (seen c.args.setting.now) c.args.self.now c.count.new.self c.in-Some.event h.1 c.step.new.self.core c.in-Ok.reply c.requires.ready
     h.3.2 (k.machine ∙ h.3.3) c.in-Ok.ensures.legal k.drawn k.done k.rounds
 
-pub returns-in_ok-count-in-Ok-clause-leads : goal.returns-in_ok-count-in-Ok-clause-leads
-returns-in_ok-count-in-Ok-clause-leads g c =
+pub returns-in-Ok-clause-leads : goal.returns-in-Ok-clause-leads
+returns-in-Ok-clause-leads g c =
     let h = c.in-Ok.ensures.stepped in
     let s = seen c.args.setting.now in
     let stage = stage_of c.args.self.now in
@@ -76,8 +76,8 @@ returns-in-Err-NotAllowed-clause-stops g c =
     (subst (λ (w : Widths). Suited w c.in-Some.event) (sym c.requires.ready.widths) (event_suited s stage c.args.setting.now.widths c.args.step c.in-Some.event c.requires.legal.suits e)) h.3.2)
     c.index_mut-wire.ensures.value (c.in-Err-NotAllowed.ensures.refused c.in-Err-NotAllowed.field-0-0 (ap (λ (f : StepFault). Err f) c.in-Err-NotAllowed.field-0-is))
 
-pub returns-in-Err-Memory-clause-stops : goal.returns-in-Err-Memory-clause-stops
-returns-in-Err-Memory-clause-stops g c =
+pub returns-clause-stops : goal.returns-clause-stops
+returns-clause-stops g c =
     let h = rw c.in-Err-Memory.field-0-is at c.in-Err-Memory.ensures.stepped in
     let s = seen c.args.setting.now in
     let stage = stage_of c.args.self.now in
