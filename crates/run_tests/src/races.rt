@@ -146,7 +146,7 @@ fn other_commands_and_refusals(rt: HostRuntime) -> Result<(), Fail> {
             "ask 0 rows 3 count 2\n",
         ),
         (
-            "trace|host:2|--query|count host=3",
+            "trade|host:2|--query|count host=3",
             INPUT,
             2,
             "waldo: bad word 0\n",
