@@ -20,7 +20,8 @@ const TWO_POINTS: &str = "ask|host:2,level:1|--query|sum host=3 level=1";
 const TWO_POINTS_ROWS: &str = "host,level,value\n3,1,10\n3,0,20\n1,1,40\n3,1,80\n";
 
 const THREE_KINDS: &str =
-    "ask|host:2,level:1,time:3|--query|count host=3 level<=0 time=2..5|--seed|00112233445566778899aabbccddeeff00112233445566778899aabbccddeeff";
+    "ask|host:2,level:1,time:3|--query|count host=3 level<=0 time=2..5|--seed|\
+     00112233445566778899aabbccddeeff00112233445566778899aabbccddeeff";
 
 const THREE_KINDS_ROWS: &str = "host,level,time,value\n3,0,2,10\n3,0,7,20\n3,1,4,5\n";
 

@@ -20,8 +20,11 @@ pub record AreRows (w : Widths) (entries : List Entry) : Type 0 where
 
 -- row r of a chunk is the share of server k of a row, and that of the next server
 pub record RowIs (w : Widths) (k : ℕ) (e : Entry) (r : ℕ) (chunk : List Halves) : Type 0 where
-  pub first : (column : ℕ) → column ≤ w.columns → row_cells (width_of w column) (halves_at chunk column).first r ≡ cells_at w column (share_of k e.seed (code_of w e.row))
-  pub second : (column : ℕ) → column ≤ w.columns → row_cells (width_of w column) (halves_at chunk column).second r ≡ cells_at w column (share_of ((k + 1) % 3) e.seed (code_of w e.row))
+  pub first : (column : ℕ) → column ≤ w.columns
+      → row_cells (width_of w column) (halves_at chunk column).first r ≡ cells_at w column (share_of k e.seed (code_of w e.row))
+  pub second : (column : ℕ) → column ≤ w.columns
+      → row_cells (width_of w column) (halves_at chunk column).second r
+      ≡ cells_at w column (share_of ((k + 1) % 3) e.seed (code_of w e.row))
   pub there : HasRows w (r + 1) chunk
 
 -- the first n rows of a chunk are the pieces of server k
@@ -47,7 +50,8 @@ rows_here entries j = take 64 (drop (64 * j) entries)
 
 -- each row of so many is at its place of the chunks, as the piece of server k
 abbrev pub HasPieces : Widths → ℕ → List Entry → List (List Halves) → Type 0
-HasPieces w k entries chunks = (place : ℕ) (d : Entry) → place < length entries → RowIs w k (slice_index_or entries place d) (place % 64) (chunk_at chunks (place / 64))
+HasPieces w k entries chunks = (place : ℕ) (d : Entry) → place < length entries
+    → RowIs w k (slice_index_or entries place d) (place % 64) (chunk_at chunks (place / 64))
 
 -- nothing is shared, and there are so many places
 pub record IsFree (w : Widths) (n : ℕ) (store : Store) : Type 0 where
@@ -61,4 +65,5 @@ pub record TakesRows (w : Widths) (k : ℕ) (entries : List Entry) (log : Log) :
   pub capacity : log.capacity ≡ length entries
   pub journal : log.journal ≡ range_with_len 0 (length entries)
   pub pieces : (place : ℕ) (piece : Piece) (d : Entry) → piece_at log.slots place ≡ Some piece
-      → (place < length entries) × IsPiece w (slice_index_or entries place d).row (slice_index_or entries place d).seed k piece × HasWidths w piece
+      → (place < length entries) × IsPiece w (slice_index_or entries place d).row (slice_index_or entries place d).seed k piece
+          × HasWidths w piece

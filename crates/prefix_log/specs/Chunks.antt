@@ -1,5 +1,6 @@
 -- Cells by chunks of 64 places, column by column.
-use Rattle.std.specs.Prelude.{◌≡◌, ◌≢◌, ℕ, ◌+◌, ◌-◌, ◌*◌, ◌/◌, ◌%◌, ◌<◌, ◌≤◌, Bool, true, false, if◌then◌else◌, Option, Some, None, List, [], length, take, min, slice_index, slice_index_or}
+use Rattle.std.specs.Prelude.{◌≡◌, ◌≢◌, ℕ, ◌+◌, ◌-◌, ◌*◌, ◌/◌, ◌%◌, ◌<◌, ◌≤◌, Bool, true, false, if◌then◌else◌, Option, Some, None, List}
+use Rattle.std.specs.Prelude.{[], length, take, min, slice_index, slice_index_or}
 use Rattle.std.specs.List.{flat_map, range_with_len}
 use Rattle.list_facts.specs.Listed.{listed}
 use Rattle.table_schema.specs.declared.widths.Widths.{Widths}
@@ -31,19 +32,26 @@ part_at half w chunks place column = row_cells (width_of w column) (half (halves
 abbrev pub half_at : (Halves → List ℕ) → Widths → List (List Halves) → ℕ → List ℕ
 half_at half w chunks place = flat_map (part_at half w chunks place) (range_with_len 0 (w.columns + 1))
 
-pub half_long : (w : Widths) (chunks : List (List Halves)) (place : ℕ) → length (half_at (λ h. h.first) w chunks place) ≡ length (half_at (λ h. h.second) w chunks place)
-half_long w chunks place = rows_long (width_of w) (λ column. (halves_at (chunk_at chunks (place / 64)) column).first) (λ column. (halves_at (chunk_at chunks (place / 64)) column).second) (place % 64) 0 (w.columns + 1)
+pub half_long : (w : Widths) (chunks : List (List Halves)) (place : ℕ)
+    → length (half_at (λ h. h.first) w chunks place) ≡ length (half_at (λ h. h.second) w chunks place)
+half_long w chunks place = rows_long (width_of w)
+    (λ column. (halves_at (chunk_at chunks (place / 64)) column).first)
+    (λ column. (halves_at (chunk_at chunks (place / 64)) column).second) (place % 64) 0 (w.columns + 1)
 
 -- the piece of a server at a place
 unfoldable pub stored_piece : ℕ → Widths → List (List Halves) → ℕ → Piece
 stored_piece server w chunks place = record {
   server = server;
-  cells = record { first = half_at (λ h. h.first) w chunks place; second = half_at (λ h. h.second) w chunks place; lengths = half_long w chunks place };
+  cells = record {
+    first = half_at (λ h. h.first) w chunks place;
+    second = half_at (λ h. h.second) w chunks place;
+    lengths = half_long w chunks place };
 }
 
 -- at each place its piece, if it is marked as filled
 unfoldable pub stored_slots : ℕ → Widths → ℕ → List Bool → List (List Halves) → List (Option Piece)
-stored_slots server w capacity filled chunks = listed capacity (λ (place : ℕ). if slice_index_or filled place false then Some (stored_piece server w chunks place) else None)
+stored_slots server w capacity filled chunks
+    = listed capacity (λ (place : ℕ). if slice_index_or filled place false then Some (stored_piece server w chunks place) else None)
 
 -- the firsts, or the seconds, of the first rows at a column
 unfoldable pub rows_at : (Halves → List ℕ) → Widths → List (List Halves) → ℕ → ℕ → List ℕ
@@ -97,7 +105,8 @@ pub record HalvesWritten (start : ℕ) (own next : List ℕ) (old new : Halves) 
 pub record RowWritten (w : Widths) (row : ℕ) (first second : List ℕ) (old new : List Halves) : Type 0 where
   pub columns : length new ≡ length old
   pub each : (column : ℕ) → column ≤ w.columns
-      → HalvesWritten (row * width_of w column) (cells_at w column first) (cells_at w column second) (halves_at old column) (halves_at new column)
+      → HalvesWritten (row * width_of w column) (cells_at w column first) (cells_at w column second) (halves_at old column)
+          (halves_at new column)
 
 -- and into chunks at a place
 pub record PlaceWritten (w : Widths) (place : ℕ) (first second : List ℕ) (old new : List (List Halves)) : Type 0 where
@@ -108,8 +117,10 @@ pub record PlaceWritten (w : Widths) (place : ℕ) (first second : List ℕ) (ol
 -- a chunk is a copy of the first rows of another one
 pub record IsCopy (w : Widths) (rows : ℕ) (old new : List Halves) : Type 0 where
   pub columns : length new ≡ length old
-  pub first : (column : ℕ) → column ≤ w.columns → (halves_at new column).first ≡ take (rows * width_of w column) (halves_at old column).first
-  pub second : (column : ℕ) → column ≤ w.columns → (halves_at new column).second ≡ take (rows * width_of w column) (halves_at old column).second
+  pub first : (column : ℕ) → column ≤ w.columns
+      → (halves_at new column).first ≡ take (rows * width_of w column) (halves_at old column).first
+  pub second : (column : ℕ) → column ≤ w.columns
+      → (halves_at new column).second ≡ take (rows * width_of w column) (halves_at old column).second
 
 -- chunks are the first whole ones of others, and a copy of the rows that are left
 pub record AreFirst (w : Widths) (rows : ℕ) (old new : List (List Halves)) : Type 0 where

@@ -16,7 +16,8 @@ use Rattle.prefix_log.specs.Snapshots.{HoldsPieces, KeepsRows, pieces_in, firsts
 abbrev pub PrefixIsOne : Type 0
 PrefixIsOne = (journal : List ℕ) (m n : ℕ) → IsPrefixOf journal m → IsPrefixOf journal n → m ≡ n
 
--- after any list of placings below the capacity the journal has each place once, in the order of first placings, and each place has the first piece that came to it
+-- after any list of placings below the capacity the journal has each place once, in the order of first placings, and each place has the
+-- first piece that came to it
 pub record HasFirsts (capacity : ℕ) (placings : List (ℕ × Piece)) (log : Log) : Type 0 where
   pub journal : log.journal ≡ places_of [] placings
   pub pieces : (place : ℕ) → place < capacity → piece_at log.slots place ≡ first_at place placings
@@ -42,7 +43,8 @@ SharingsGiveCells = (w : Widths) (k n : ℕ) (entries : List (Row × Seed)) (slo
 
 -- a snapshot of slots that have a server's pieces of rows keeps these rows
 abbrev pub SnapshotsKeepRows : Type 0
-SnapshotsKeepRows = (w : Widths) (k n : ℕ) (entries : List (Row × Seed)) (slots : List (Option Piece)) (h : Held) → AreSharings w k n entries slots → n ≤ length entries
+SnapshotsKeepRows = (w : Widths) (k n : ℕ) (entries : List (Row × Seed)) (slots : List (Option Piece)) (h : Held)
+    → AreSharings w k n entries slots → n ≤ length entries
     → HoldsPieces w (pieces_in (take n slots)) h → KeepsRows w k (take n entries) h
 
 -- and cut, it keeps the first of them

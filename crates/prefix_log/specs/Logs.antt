@@ -1,5 +1,6 @@
 -- What contracts see of a server's log.
-use Rattle.std.specs.Prelude.{◌≡◌, ℕ, ◌<◌, ◌≤◌, Bool, true, false, if◌then◌else◌, Option, Some, None, is_some, List, [], ◌∷◌, ◌++◌, length, slice_index_or, slice_set}
+use Rattle.std.specs.Prelude.{◌≡◌, ℕ, ◌<◌, ◌≤◌, Bool, true, false, if◌then◌else◌, Option, Some}
+use Rattle.std.specs.Prelude.{None, is_some, List, [], ◌∷◌, ◌++◌, length, slice_index_or, slice_set}
 use Rattle.list_facts.specs.Count.{times}
 use Rattle.list_facts.specs.Listed.{listed}
 use Rattle.table_schema.specs.Widths.{Fits, column_bits}
@@ -39,11 +40,15 @@ pub record IsLog (log : Log) : Type 0 where
 
 -- the log of cells in chunks, of which those at filled places count
 abbrev pub log_of : ℕ → Widths → ℕ → List ℕ → List Bool → List (List Halves) → Log
-log_of server w capacity journal filled chunks = record { server = server; widths = w; capacity = capacity; journal = journal; slots = stored_slots server w capacity filled chunks }
+log_of server w capacity journal filled chunks = record {
+  server = server; widths = w; capacity = capacity; journal = journal;
+  slots = stored_slots server w capacity filled chunks }
 
 -- a log without pieces
 abbrev pub empty_log : ℕ → Widths → ℕ → Log
-empty_log server w capacity = record { server = server; widths = w; capacity = capacity; journal = []; slots = listed capacity (λ (place : ℕ). None) }
+empty_log server w capacity = record {
+  server = server; widths = w; capacity = capacity; journal = [];
+  slots = listed capacity (λ (place : ℕ). None) }
 
 -- the log after a piece came to a place: a free place takes it and stands at the journal's end; else nothing changes
 abbrev pub placed : Log → ℕ → Piece → Log

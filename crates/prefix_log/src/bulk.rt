@@ -1,5 +1,6 @@
 //! Rows that come in bulk: each worker splits the rows of some chunks, straight into the chunks of the three servers.
-ghost use Rattle.std.specs.Prelude.{◌≡◌, ℕ, ◌+◌, ◌*◌, ◌<◌, ◌≤◌, true, [], All, OnOk, length, map, reverse, slice_index_or, vec_capacity, vec_len};
+ghost use Rattle.std.specs.Prelude.{◌≡◌, ℕ, ◌+◌, ◌*◌, ◌<◌, ◌≤◌, true, [], All};
+ghost use Rattle.std.specs.Prelude.{OnOk, length, map, reverse, slice_index_or, vec_capacity, vec_len};
 ghost use Rattle.prefix_log.specs.Bulk.{AreFilled, AreRows, Fills, HasPieces, HaveRoom, rows_here};
 ghost use Rattle.prefix_log.specs.Chunks.{HasRoom, HavePlaces};
 ghost use Rattle.table_schema.specs.Widths.{Holds};
@@ -92,8 +93,10 @@ fn fill_all<R: Threads + Sync>(
     requires held { All (λ e. Holds widths.now e.row) entries.now }
     requires small { length entries.now ≤ 65536 }
     requires enough { 64 * length trios.old ≤ length entries.now + 63 }
-    requires room { (j : ℕ) (d : Trio) → j < length trios.old → HaveRoom widths.now (length (rows_here entries.now j)) (slice_index_or trios.old j d) }
-    ensures { (j : ℕ) (d : Trio) → j < length trios.old → Fills widths.now (rows_here entries.now j) (slice_index_or trios.old j d) (slice_index_or trios.new j d) }
+    requires room { (j : ℕ) (d : Trio) → j < length trios.old
+        → HaveRoom widths.now (length (rows_here entries.now j)) (slice_index_or trios.old j d) }
+    ensures { (j : ℕ) (d : Trio) → j < length trios.old
+        → Fills widths.now (rows_here entries.now j) (slice_index_or trios.old j d) (slice_index_or trios.new j d) }
 {
     for_each_mut(
         rt,
@@ -190,8 +193,10 @@ fn fill_vec<R: Threads + Sync>(
     requires held { All (λ e. Holds widths.now e.row) entries.now }
     requires small { length entries.now ≤ 65536 }
     requires enough { 64 * length trios.old.items ≤ length entries.now + 63 }
-    requires room { (j : ℕ) (d : Trio) → j < length trios.old.items → HaveRoom widths.now (length (rows_here entries.now j)) (slice_index_or trios.old.items j d) }
-    ensures each { (j : ℕ) (d : Trio) → j < length trios.old.items → Fills widths.now (rows_here entries.now j) (slice_index_or trios.old.items j d) (slice_index_or trios.new.items j d) }
+    requires room { (j : ℕ) (d : Trio) → j < length trios.old.items
+        → HaveRoom widths.now (length (rows_here entries.now j)) (slice_index_or trios.old.items j d) }
+    ensures each { (j : ℕ) (d : Trio) → j < length trios.old.items
+        → Fills widths.now (rows_here entries.now j) (slice_index_or trios.old.items j d) (slice_index_or trios.new.items j d) }
     ensures count { length trios.new.items ≡ length trios.old.items }
     ensures done { result ≡ true → (j : ℕ) (d : Trio) → j < length trios.new.items → (slice_index_or trios.new.items j d).done ≡ true }
 {

@@ -19,7 +19,10 @@ impl Model for Cells {
 
     ghost Value = { Halves };
 
-    ghost view = { λ s. record { first = s.first.items; second = s.second.items; room = min (vec_capacity s.first) (vec_capacity s.second) } };
+    ghost view = { λ s. record {
+        first = s.first.items;
+        second = s.second.items;
+        room = min (vec_capacity s.first) (vec_capacity s.second) } };
 }
 
 impl Cells {

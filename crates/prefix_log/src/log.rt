@@ -1,4 +1,5 @@
-ghost use Rattle.std.specs.Prelude.{◌≡◌, ℕ, ◌<◌, ◌≤◌, false, nat_lt, if◌then◌else◌, All, IfOk, OnErr, OnOk, [], length, slice_index_or, take, vec_capacity};
+ghost use Rattle.std.specs.Prelude.{◌≡◌, ℕ, ◌<◌, ◌≤◌, false, nat_lt, if◌then◌else◌, All, IfOk};
+ghost use Rattle.std.specs.Prelude.{OnErr, OnOk, [], length, slice_index_or, take, vec_capacity};
 ghost use Rattle.std.specs.List.{range_with_len};
 ghost use Rattle.table_schema.specs.Widths.{Fits, Holds, column_bits};
 ghost use Rattle.prefix_log.specs.Bulk.{TakesRows};
@@ -44,7 +45,9 @@ impl Model for ServerLog {
 
     ghost view = { λ s. log_of s.server s.widths s.capacity s.journal.items s.filled.items s.chunks.chunks };
 
-    ghost invariant = { λ s. IsKept (vec_capacity s.journal) s.prefix (log_of s.server s.widths s.capacity s.journal.items s.filled.items s.chunks.chunks) × IsStored s.widths s.capacity s.prefix s.filled.items s.chunks };
+    ghost invariant = { λ s. IsKept (vec_capacity s.journal) s.prefix
+        (log_of s.server s.widths s.capacity s.journal.items s.filled.items s.chunks.chunks)
+        × IsStored s.widths s.capacity s.prefix s.filled.items s.chunks };
 }
 
 impl Journaled for ServerLog {
@@ -126,7 +129,8 @@ impl ServerLog {
         ensures stays { self.new ≡ self.old }
         ensures legal { IsLog self.old }
         ensures rows { IfOk result (λ s. IsPrefixOf self.old.journal (⟦<Snapshot as Shelf>⟧.held s).rows) }
-        ensures pieces { IfOk result (λ s. let h = ⟦<Snapshot as Shelf>⟧.held s in HoldsPieces self.old.widths (pieces_in (take h.rows self.old.slots)) h) }
+        ensures pieces { IfOk result (λ s. let h = ⟦<Snapshot as Shelf>⟧.held s in
+            HoldsPieces self.old.widths (pieces_in (take h.rows self.old.slots)) h) }
         ensures visits { IfOk result (λ s. ⟦<Snapshot as Shelf>⟧.visited s ≡ []) }
     {
         let rows = self.prefix;

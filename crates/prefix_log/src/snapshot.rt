@@ -62,10 +62,13 @@ impl Snapshot {
     pub fn parts(&self, alloc: Global, workers: u8) -> Result<Vec<Snapshot>, Memory>
         requires { 0 < workers }
         ensures count { IfOk result (λ p. length p.items ≡ workers) }
-        ensures rows { (column : ℕ) → column ≤ (⟦<Snapshot as Shelf>⟧.held self.now).columns → IfOk result (λ p. AreParts column (map ⟦<Snapshot as Shelf>⟧.held p.items) (⟦<Snapshot as Shelf>⟧.held self.now)) }
-        ensures columns { IfOk result (λ p. All (λ (h : Held). h.columns ≡ (⟦<Snapshot as Shelf>⟧.held self.now).columns) (map ⟦<Snapshot as Shelf>⟧.held p.items)) }
+        ensures rows { (column : ℕ) → column ≤ (⟦<Snapshot as Shelf>⟧.held self.now).columns
+            → IfOk result (λ p. AreParts column (map ⟦<Snapshot as Shelf>⟧.held p.items) (⟦<Snapshot as Shelf>⟧.held self.now)) }
+        ensures columns { IfOk result (λ p.
+            All (λ (h : Held). h.columns ≡ (⟦<Snapshot as Shelf>⟧.held self.now).columns) (map ⟦<Snapshot as Shelf>⟧.held p.items)) }
         ensures chunks { IfOk result (λ p. GoOn (⟦<Snapshot as Shelf>⟧.held self.now).start (map ⟦<Snapshot as Shelf>⟧.held p.items)) }
-        ensures even { IfOk result (λ p. All (IsEven (chunks_of (⟦<Snapshot as Shelf>⟧.held self.now).rows) workers) (map ⟦<Snapshot as Shelf>⟧.held p.items)) }
+        ensures even { IfOk result (λ p. All (IsEven (chunks_of (⟦<Snapshot as Shelf>⟧.held self.now).rows) workers)
+            (map ⟦<Snapshot as Shelf>⟧.held p.items)) }
         ensures visits { IfOk result (λ p. All (λ s. ⟦<Snapshot as Shelf>⟧.visited s ≡ []) p.items) }
     {
         let chunks = self.rows.count().div_ceil(64);

@@ -27,7 +27,8 @@ key_at query bits seed party run j k =
 
 -- the words of server k's two keys of predicate j in a run: party 0's for share k, and party 1's for share k + 1
 abbrev pub pair_words : Query → List ℕ → Seed → ℕ → ℕ → ℕ → List ℕ
-pair_words query bits seed k run j = words_of_key (key_at query bits seed Zero run j k) ++ words_of_key (key_at query bits seed One run j ((k + 1) % 3))
+pair_words query bits seed k run j
+    = words_of_key (key_at query bits seed Zero run j k) ++ words_of_key (key_at query bits seed One run j ((k + 1) % 3))
 
 -- the words of all its keys in a run
 abbrev pub run_words : Query → List ℕ → Seed → ℕ → ℕ → List ℕ

@@ -43,7 +43,8 @@ pub record IsNext (columns : ℕ) (bits : List ℕ) (earlier : List Predicate) (
 -- what stands at a place of a legal query: a predicate behind the earlier ones, or nothing past the count
 abbrev pub IsPlaced : ℕ → List ℕ → Query → ℕ → Type 0
 IsPlaced columns bits query i =
-    MatchBool (nat_lt i query.count) (IsNext columns bits (take i query.predicates) (predicate_at query i)) (predicate_at query i ≡ no_predicate)
+    MatchBool (nat_lt i query.count)
+        (IsNext columns bits (take i query.predicates) (predicate_at query i)) (predicate_at query i ≡ no_predicate)
 
 -- a legal query over so many columns of these bits: 1 to 4 predicates, each on a column of its own
 pub record Suits (columns : ℕ) (bits : List ℕ) (query : Query) : Type 0 where

@@ -1,5 +1,6 @@
 -- What the text of a query means, or its first fault.
-use Rattle.std.specs.Prelude.{ℕ, ◌+◌, ◌&&◌, ◌==◌, not, List, [], ◌∷◌, length, Option, Some, None, Result, Ok, Err, if◌then◌else◌, nat_le, codes, slice_set, take}
+use Rattle.std.specs.Prelude.{ℕ, ◌+◌, ◌&&◌, ◌==◌, not, List, [], ◌∷◌, length, Option, Some, None, Result, Ok, Err, if◌then◌else◌, nat_le}
+use Rattle.std.specs.Prelude.{codes, slice_set, take}
 use Rattle.std.specs.Option.{ok_or}
 use Rattle.std.specs.Str.{bytes_eq}
 use Rattle.text_reading.specs.Cut.{cut_at, pieces}
@@ -106,7 +107,8 @@ with_piece q (Err why) = Err (fault.Predicate q.count why)
 -- the predicates of the pieces, from the left, behind those of a query
 unfoldable pub predicates_from : List Column → Query → List (List ℕ) → Result Query QueryFault
 predicates_from columns q [] = Ok q
-predicates_from columns q (p ∷ ps) = with_piece q (predicate_of columns (take q.count q.predicates) p) >>= λ more. predicates_from columns more ps
+predicates_from columns q (p ∷ ps)
+    = with_piece q (predicate_of columns (take q.count q.predicates) p) >>= λ more. predicates_from columns more ps
 
 unfoldable pub aggregate_of : List ℕ → Option Aggregate
 aggregate_of word = if bytes_eq word (codes "count") then Some Count else if bytes_eq word (codes "sum") then Some Sum else None

@@ -1,7 +1,8 @@
 // What a server reads from its key message.
 
 ghost use Rattle.std.specs.Prelude.{◌≡◌, ◌<◌, ◌≤◌, ◌+◌, ◌*◌, ℕ, All, IfErr, IfOk, length};
-ghost use Rattle.query_plan.specs.KeyMessages.{keys_read, message_length, pair_read, pairs_read, part_at, part_length, run_length, HasMessageFault, HasColumn};
+ghost use Rattle.query_plan.specs.KeyMessages.{keys_read, message_length, pair_read, pairs_read, part_at};
+ghost use Rattle.query_plan.specs.KeyMessages.{part_length, run_length, HasMessageFault, HasColumn};
 
 use crate::key::{KeyPair, key_length, read_key};
 use crate::server_keys::ServerKeys;

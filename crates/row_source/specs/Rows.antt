@@ -1,5 +1,6 @@
 -- What the rows of an input are, or its first fault.
-use Rattle.std.specs.Prelude.{◌≡◌, ℕ, ◌+◌, ◌&&◌, ◌==◌, Bool, false, List, [], ◌∷◌, ◌++◌, All, length, map, Result, Ok, Err, if◌then◌else◌, nat_lt, nat_le, codes, slice_set, ℤ, pos}
+use Rattle.std.specs.Prelude.{◌≡◌, ℕ, ◌+◌, ◌&&◌, ◌==◌, Bool, false, List, [], ◌∷◌, ◌++◌, All, length, map, Result, Ok, Err, if◌then◌else◌}
+use Rattle.std.specs.Prelude.{nat_lt, nat_le, codes, slice_set, ℤ, pos}
 use Rattle.std.specs.Option.{ok_or}
 use Rattle.std.specs.Str.{bytes_eq, is_utf8}
 use Rattle.csv.specs.Reading.{default_config, records, strip_bom}

@@ -194,9 +194,12 @@ fn a_round_over_two_rows(rt: HostRuntime) -> Result<(), Fail> {
         .ok()
         .ok_or("memory")?;
     let texts = [
-        "rows 3\nplace 0 row 0\nplace 1 row 1\nplace 2 row 2\nback 0 rows 3\nask 0.0 rows 0 count 0\nask 0.1 rows 2 count 1\nend 0 rows 3 count 2\n",
-        "rows 3\nplace 0 row 0\nplace 1 row 1\nplace 2 row 2\nback 0 rows 3\nask 0.0 rows 1 count 1\nask 0.1 rows 2 count 1\nend 0 rows 3 count 2\n",
-        "rows 3\nplace 0 row 0\nplace 1 row 1\nplace 2 row 2\nback 0 rows 3\nask 0.0 rows 2 count 1\nask 0.1 rows 2 count 1\nend 0 rows 3 count 2\n",
+        "rows 3\nplace 0 row 0\nplace 1 row 1\nplace 2 row 2\nback 0 rows 3\n\
+         ask 0.0 rows 0 count 0\nask 0.1 rows 2 count 1\nend 0 rows 3 count 2\n",
+        "rows 3\nplace 0 row 0\nplace 1 row 1\nplace 2 row 2\nback 0 rows 3\n\
+         ask 0.0 rows 1 count 1\nask 0.1 rows 2 count 1\nend 0 rows 3 count 2\n",
+        "rows 3\nplace 0 row 0\nplace 1 row 1\nplace 2 row 2\nback 0 rows 3\n\
+         ask 0.0 rows 2 count 1\nask 0.1 rows 2 count 1\nend 0 rows 3 count 2\n",
     ];
     assert!(&rt; gate.first.has_ended() && gate.second.has_ended() && is_one_of(&text, &texts));
     Ok(())

@@ -11,7 +11,8 @@ use Rattle.wire_line.specs.declared.message.Message.{Message}
 use Rattle.server_rounds.specs.declared.opened.OpenedPair.{OpenedPair}
 
 -- both openings are the sums of the shifted chains: with weights 1 in run 0, and with the seed's weights in run 1
-pub record OpensShifted (s : Setup) (query : Query) (seed : Seed) (rows : List Row) (ms : List Message) (server : ℕ) (pair : OpenedPair) : Type 0 where
+pub record OpensShifted (s : Setup) (query : Query) (seed : Seed) (rows : List Row) (ms : List Message) (server : ℕ)
+    (pair : OpenedPair) : Type 0 where
   pub total : pair.total ≡ shifted_sum s query (weights_of seed 0) rows ms 0 server
   pub weighted : pair.weighted ≡ shifted_sum s query (weights_of seed 1) rows ms 1 server
 

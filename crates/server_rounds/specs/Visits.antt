@@ -22,7 +22,8 @@ AreVisited held visited columns old new (Ok x) = AllZip (λ s t. visited t ≡ v
 AreVisited held visited columns old new (Err e) = AllZip (λ s t. VisitsPart (visited s) (visited t) (visits_at (held s) columns)) old new
 
 -- the shelves of the three servers before and after a call that visits these columns at each server
-pub record AllVisited {S T : Type 0} (held : S → Held) (visited : S → List Visit) (columns : List ℕ) (old new : Servers S) (result : Result T Memory) : Type 0 where
+pub record AllVisited {S T : Type 0} (held : S → Held) (visited : S → List Visit) (columns : List ℕ) (old new : Servers S)
+    (result : Result T Memory) : Type 0 where
   pub zero : AreVisited held visited columns old.zero.items new.zero.items result
   pub one : AreVisited held visited columns old.one.items new.one.items result
   pub two : AreVisited held visited columns old.two.items new.two.items result

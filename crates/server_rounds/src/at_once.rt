@@ -149,15 +149,18 @@ pub(crate) fn openings_at_once<R: Threads + Sync, S: Shelf + Send>(
     }
     let mut first = || -> Result<Words, Memory>
         requires { CanOpen S.held plan.now run chain.now zero.now.items }
-        ensures { GivesOpening S.held S.visited plan.entry.now run (views_of keys.entry.now) chain.entry.now 0 zero.entry.now.items zero.exit.now.items result }
+        ensures { GivesOpening S.held S.visited plan.entry.now run
+            (views_of keys.entry.now) chain.entry.now 0 zero.entry.now.items zero.exit.now.items result }
     { opening_part(alloc, plan, keys, chain, 0, run, zero) };
     let mut second = || -> Result<Words, Memory>
         requires { CanOpen S.held plan.now run chain.now one.now.items }
-        ensures { GivesOpening S.held S.visited plan.entry.now run (views_of keys.entry.now) chain.entry.now 1 one.entry.now.items one.exit.now.items result }
+        ensures { GivesOpening S.held S.visited plan.entry.now run
+            (views_of keys.entry.now) chain.entry.now 1 one.entry.now.items one.exit.now.items result }
     { opening_part(alloc, plan, keys, chain, 1, run, one) };
     let mut third = || -> Result<Words, Memory>
         requires { CanOpen S.held plan.now run chain.now two.now.items }
-        ensures { GivesOpening S.held S.visited plan.entry.now run (views_of keys.entry.now) chain.entry.now 2 two.entry.now.items two.exit.now.items result }
+        ensures { GivesOpening S.held S.visited plan.entry.now run
+            (views_of keys.entry.now) chain.entry.now 2 two.entry.now.items two.exit.now.items result }
     { opening_part(alloc, plan, keys, chain, 2, run, two) };
     join_three(rt, &mut first, &mut second, &mut third)
 }

@@ -129,7 +129,8 @@ impl Product {
         ensures zero { map S.held shelves.new.zero.items ≡ map S.held shelves.old.zero.items }
         ensures one { map S.held shelves.new.one.items ≡ map S.held shelves.old.one.items }
         ensures two { map S.held shelves.new.two.items ≡ map S.held shelves.old.two.items }
-        ensures visits { AllVisited S.held S.visited (opened_columns self.plan.shape.aggregate self.plan.widths.columns) shelves.old shelves.new result }
+        ensures visits { AllVisited S.held S.visited
+            (opened_columns self.plan.shape.aggregate self.plan.widths.columns) shelves.old shelves.new result }
         ensures messages { let pieces = by_server (pieces_of (map S.held shelves.old.zero.items))
             (pieces_of (map S.held shelves.old.one.items)) (pieces_of (map S.held shelves.old.two.items)) in
             (ms : List Message) × Went W.sight wire.old ms wire.new

@@ -176,7 +176,8 @@ pub(crate) fn opening_round<R: Threads + Sync, S: Shelf + Send, W: Wire>(
     ensures zero { map S.held shelves.new.zero.items ≡ map S.held shelves.old.zero.items }
     ensures one { map S.held shelves.new.one.items ≡ map S.held shelves.old.one.items }
     ensures two { map S.held shelves.new.two.items ≡ map S.held shelves.old.two.items }
-    ensures visits { AllVisited S.held S.visited (opened_columns plan.now.shape.aggregate plan.now.widths.columns) shelves.old shelves.new result }
+    ensures visits { AllVisited S.held S.visited
+        (opened_columns plan.now.shape.aggregate plan.now.widths.columns) shelves.old shelves.new result }
     ensures messages { let pieces = by_server (pieces_of (map S.held shelves.old.zero.items))
         (pieces_of (map S.held shelves.old.one.items)) (pieces_of (map S.held shelves.old.two.items)) in
         (ms : List Message) × Went W.sight wire.old ms wire.new

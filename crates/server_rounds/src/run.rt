@@ -191,7 +191,8 @@ pub fn both_runs<R: Threads + Sync, S: Shelf + Send, W: Wire>(
     ensures zero { map S.held shelves.new.zero.items ≡ map S.held shelves.old.zero.items }
     ensures one { map S.held shelves.new.one.items ≡ map S.held shelves.old.one.items }
     ensures two { map S.held shelves.new.two.items ≡ map S.held shelves.old.two.items }
-    ensures visits { AllVisited S.held S.visited (query_columns (sizes_for keys.now (rows_of (map S.held shelves.old.zero.items)))) shelves.old shelves.new result }
+    ensures visits { AllVisited S.held S.visited
+        (query_columns (sizes_for keys.now (rows_of (map S.held shelves.old.zero.items)))) shelves.old shelves.new result }
     ensures messages { let pieces = by_server (pieces_of (map S.held shelves.old.zero.items))
         (pieces_of (map S.held shelves.old.one.items)) (pieces_of (map S.held shelves.old.two.items)) in
         let setup = setup_for keys.now.query keys.now.widths keys.now.seed (rows_of (map S.held shelves.old.zero.items)) pieces in

@@ -54,7 +54,8 @@ pub(crate) fn inner_of_values<S: Shelf>(
     ensures sum { IfOk result (λ n. n ≡ inner_of first.now second.now
         (flat_map (λ s. (S.held s).pieces.first value) shelves.old) (flat_map (λ s. (S.held s).pieces.second value) shelves.old)) }
     ensures visits { OnOk result (AllZip (λ s t. S.visited t ≡ S.visited s ++ visits_of (S.held s) value) shelves.old shelves.new) }
-    ensures part { OnErr result (AllZip (λ s t. VisitsPart (S.visited s) (S.visited t) (visits_of (S.held s) value)) shelves.old shelves.new) }
+    ensures part { OnErr result (AllZip
+        (λ s t. VisitsPart (S.visited s) (S.visited t) (visits_of (S.held s) value)) shelves.old shelves.new) }
 {
     let mut sum = 0;
     let mut from = 0;

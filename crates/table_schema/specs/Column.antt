@@ -1,5 +1,6 @@
 -- What columns keep, and the bucket of a raw number.
-use Rattle.std.specs.Prelude.{ℕ, ◌-◌, ◌^◌, ◌/◌, ◌<◌, ◌≤◌, ◌&&◌, List, All, length, Option, Some, None, if◌then◌else◌, nat_lt, nat_le, slice_get}
+use Rattle.std.specs.Prelude.{ℕ, ◌-◌, ◌^◌, ◌/◌, ◌<◌, ◌≤◌, ◌&&◌, List, All}
+use Rattle.std.specs.Prelude.{length, Option, Some, None, if◌then◌else◌, nat_lt, nat_le, slice_get}
 use Rattle.std.specs.Option.{option_and_then}
 use Rattle.table_schema.specs.Limits.{most_columns}
 use Rattle.table_schema.specs.declared.schema.Column.{Column}

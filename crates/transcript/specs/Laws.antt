@@ -87,7 +87,8 @@ KeysAreLong s = (k : ℕ) → k < 3 → length (s.keys k) ≡ message_length s.s
 -- the lengths of all messages that a server sends or receives, in order, are those of the trace of the sizes, whatever was altered
 abbrev pub LengthsAreTrace : Type 0
 LengthsAreTrace =
-    (s : Setup) (ms : List Message) (k : ℕ) → k < 3 → s.ending ≡ total_ending s.sizes → 0 < count_of s.sizes → KeysAreLong s → IsTranscript s ms
+    (s : Setup) (ms : List Message) (k : ℕ) → k < 3 → s.ending ≡ total_ending s.sizes → 0 < count_of s.sizes → KeysAreLong s
+        → IsTranscript s ms
     → lengths_at k ms ≡ (seen_by (trace_of s.sizes) k).lengths
 
 -- those of the first messages are a prefix of them

@@ -1,6 +1,7 @@
 //! Laws of the definitions, as functions without effect: the clause of each is the law.
 
-ghost use Rattle.transcript.specs.Laws.{ColumnsSuffice, ProductsShared, TotalSeesColumns, RunsOpen, PairOpens, PiecesHold, PlainIsSmall, LengthsAreSizes, LengthsAreTrace, LengthsBeginTrace};
+ghost use Rattle.transcript.specs.Laws.{ColumnsSuffice, ProductsShared, TotalSeesColumns, RunsOpen, PairOpens, PiecesHold, PlainIsSmall};
+ghost use Rattle.transcript.specs.Laws.{LengthsAreSizes, LengthsAreTrace, LengthsBeginTrace};
 ghost use Rattle.transcript.specs.Shifts.{ShiftedOpen};
 
 /// Where nothing was altered and the servers hold rows, they share the products of the bits, however the run ends.

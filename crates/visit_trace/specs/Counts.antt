@@ -16,12 +16,13 @@ abbrev pub value_columns : Aggregate → ℕ
 value_columns Count = 0
 value_columns Sum = 1
 
--- the visits of a query over n rows at each server: in each of its two runs all chunks of the predicates' columns and of the values that it reads
+-- the visits of a query over n rows at each server: in each of its two runs all chunks of the predicates' columns and of the values
+-- that it reads
 abbrev pub visits_over : ℕ → Shape → ℕ
 visits_over n shape = 2 * (chunks_of n * (shape.count + value_columns shape.aggregate))
 
--- the words that each server sends or receives for a query over n rows of columns of these bits: its key message; and in each run, for the bits of
--- each predicate and for each product, n words out and n words in, and one word to the client
+-- the words that each server sends or receives for a query over n rows of columns of these bits: its key message; and in each run, for
+-- the bits of each predicate and for each product, n words out and n words in, and one word to the client
 abbrev pub words_over : List ℕ → ℕ → Shape → ℕ
 words_over bits n shape = message_length shape bits + 2 * (2 * n * (2 * shape.count - 1) + 1)
 

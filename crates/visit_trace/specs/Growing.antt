@@ -52,7 +52,9 @@ saw_none : (a p : Seen) → SawPrefix a a p
 saw_none a p = record { visits = list_none a.visits p.visits; lengths = list_none a.lengths p.lengths }
 
 saw_whole : (a b p : Seen) → SawMore a b p → SawPrefix a b p
-saw_whole a b p e = record { visits = list_whole a.visits b.visits p.visits e.visits; lengths = list_whole a.lengths b.lengths p.lengths e.lengths }
+saw_whole a b p e = record {
+  visits = list_whole a.visits b.visits p.visits e.visits;
+  lengths = list_whole a.lengths b.lengths p.lengths e.lengths }
 
 saw_begun : (a b c p q : Seen) → SawMore a b p → SawPrefix b c q → SawPrefix a c (then_at p q)
 saw_begun a b c p q e f = record {
@@ -120,7 +122,8 @@ by_stopped a b p (Err e) failed g = g
 pub by_fails : {T U E F : Type 0} (a b p : AllSeen) (r : Result T E) (q : Result U F) → IsErr q → GrewBy a b p r → GrewBy a b p q
 by_fails a b p r q failed g = by_stopped a b p q failed (by_prefix a b p r g)
 
-pub by_cut : {T U E F : Type 0} (a b p p' : AllSeen) (r : Result T E) (q : Result U F) → IsErr q → GrewBy a b p r → GrewBy a b (seen_then p p') q
+pub by_cut : {T U E F : Type 0} (a b p p' : AllSeen) (r : Result T E) (q : Result U F) → IsErr q → GrewBy a b p r
+    → GrewBy a b (seen_then p p') q
 by_cut a b p p' r q failed g = by_stopped a b (seen_then p p') q failed (prefix_cut a b p p' (by_prefix a b p r g))
 
 -- a call after another one that had memory
@@ -133,12 +136,14 @@ pub parts_join : (z : Sizes) (xs ys ls ms : List ℕ) → seen_then (part_seen z
 parts_join z xs ys ls ms =
     ap (λ (v : List Visit). alike (record { visits = v; lengths = ls ++ ms })) (sym (flat_map-append (chunk_visits z.rows) xs ys))
 
-pub part_then : {T E : Type 0} (z : Sizes) (xs ys ls ms : List ℕ) (a b c : AllSeen) (r : Result T E) → Grew a b (part_seen z xs ls) → GrewBy b c (part_seen z ys ms) r
+pub part_then : {T E : Type 0} (z : Sizes) (xs ys ls ms : List ℕ) (a b c : AllSeen) (r : Result T E) → Grew a b (part_seen z xs ls)
+    → GrewBy b c (part_seen z ys ms) r
     → GrewBy a c (part_seen z (xs ++ ys) (ls ++ ms)) r
 part_then z xs ys ls ms a b c r e g =
     subst (λ (p : AllSeen). GrewBy a c p r) (parts_join z xs ys ls ms) (by_then a b c (part_seen z xs ls) (part_seen z ys ms) r e g)
 
-pub part_cut : {T U E F : Type 0} (z : Sizes) (xs ys ls ms : List ℕ) (a b : AllSeen) (r : Result T E) (q : Result U F) → IsErr q → GrewBy a b (part_seen z xs ls) r
+pub part_cut : {T U E F : Type 0} (z : Sizes) (xs ys ls ms : List ℕ) (a b : AllSeen) (r : Result T E) (q : Result U F) → IsErr q
+    → GrewBy a b (part_seen z xs ls) r
     → GrewBy a b (part_seen z (xs ++ ys) (ls ++ ms)) q
 part_cut z xs ys ls ms a b r q failed g =
     subst (λ (p : AllSeen). GrewBy a b p q) (parts_join z xs ys ls ms) (by_cut a b (part_seen z xs ls) (part_seen z ys ms) r q failed g)

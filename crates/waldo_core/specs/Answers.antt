@@ -43,7 +43,8 @@ Carries w core (events.Draw number row seed) ms pair = ms ≡ []
 Carries w core (events.Place number k) ms pair = ms ≡ []
 Carries w core (events.Look number k) ms pair = ms ≡ []
 Carries w core (events.Fix number) ms pair = ms ≡ []
-Carries w core (events.Answer number query seed) ms pair = OpensOver w core.order (rows_agreed (slice_get core.actors number)) query seed ms pair
+Carries w core (events.Answer number query seed) ms pair
+    = OpensOver w core.order (rows_agreed (slice_get core.actors number)) query seed ms pair
 
 -- the first messages of an answer
 abbrev pub BeginsOver : Widths → List (Row × Seed) → Option ℕ → Query → Seed → List Message → Type 0

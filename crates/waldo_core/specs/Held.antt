@@ -122,7 +122,8 @@ HasNone a event = (capacity : ℕ) (core : Core) (pair : OpenedPair) → acts ca
 pub record CanPlace (k : ℕ) (logs : Logs) (a : ActorState) : Type 0 where
   pub room : (draw : OpenDraw) → a.draw ≡ Some draw → draw.place < (log_of logs k).capacity
   pub small : (draw : OpenDraw) → a.draw ≡ Some draw → draw.place < 65536
-  pub own : (draw : OpenDraw) (piece : Piece) → a.draw ≡ Some draw → piece_for k draw ≡ Some piece → IsOwn (log_of logs k).server (log_of logs k).widths piece
+  pub own : (draw : OpenDraw) (piece : Piece) → a.draw ≡ Some draw → piece_for k draw ≡ Some piece
+      → IsOwn (log_of logs k).server (log_of logs k).widths piece
 
 -- a placing at server k: the draw goes on without its piece, which the log took
 pub record PlacesPiece (held : Snapshot → Held) (k : ℕ) (before : Logs) (a : ActorState) (after : Logs) (b : ActorState) : Type 0 where
@@ -132,7 +133,8 @@ pub record PlacesPiece (held : Snapshot → Held) (k : ℕ) (before : Logs) (a :
   pub logs : after ≡ with_piece before k draw.place (piece_for k draw)
   pub rest : (d : OpenDraw) → b.draw ≡ Some d → d ≡ without k draw
   pub unfixed : b.snapshots ≡ found.Unfixed
-  pub does : (capacity number : ℕ) (core : Core) (pair : OpenedPair) → acts capacity core (events.Place number k) pair (Some (seen_actor held a))
+  pub does : (capacity number : ℕ) (core : Core) (pair : OpenedPair)
+      → acts capacity core (events.Place number k) pair (Some (seen_actor held a))
       ≡ Some (with_actor (with_journal core k (with_place draw.place (journal_of core k))) number (seen_actor held b), replies.Placed)
 
 abbrev pub Places : (Snapshot → Held) → ℕ → Logs → ActorState → Logs → ActorState → Option Reply → Type 0
@@ -153,11 +155,13 @@ Looks held k logs a b (Some reply) = LooksAt held k logs a b reply
 -- a fix
 pub record Fixed (held : Snapshot → Held) (logs : Logs) (a b : ActorState) (reply : Reply) : Type 0 where
   pub draw : b.draw ≡ a.draw
-  pub does : (capacity number : ℕ) (core : Core) (pair : OpenedPair) → core.zero ≡ logs.zero.journal → core.one ≡ logs.one.journal → core.two ≡ logs.two.journal
+  pub does : (capacity number : ℕ) (core : Core) (pair : OpenedPair) → core.zero ≡ logs.zero.journal → core.one ≡ logs.one.journal
+      → core.two ≡ logs.two.journal
       → acts capacity core (events.Fix number) pair (Some (seen_actor held a)) ≡ Some (with_actor core number (seen_actor held b), reply)
 
 -- a third snapshot is kept: the actor agrees on the first rows of the order, as many as the least of the three has
-pub record KeepsThird (held : Snapshot → Held) (w : Widths) (order : List (Row × Seed)) (s t u : Snapshot) (a b : ActorState) (reply : Reply) : Type 0 where
+pub record KeepsThird (held : Snapshot → Held) (w : Widths) (order : List (Row × Seed)) (s t u : Snapshot) (a b : ActorState)
+    (reply : Reply) : Type 0 where
   pub agreed : Entries
   pub first : AreFirstRows w order agreed
   pub rows : length agreed.all ≡ min (min (held s).rows (held t).rows) (held u).rows

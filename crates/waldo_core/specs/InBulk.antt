@@ -22,7 +22,8 @@ appending entry = events.Draw 0 entry.0 entry.1 ∷ events.Place 0 0 ∷ events.
 -- these events have cases one after another, whatever answers would open, and lead from a core to another one
 abbrev pub Leads : ℕ → Core → List Event → Core → Type 0
 Leads capacity core [] last = core ≡ last
-Leads capacity core (e ∷ es) last = (next : Core × Reply) × ((pair : OpenedPair) → step capacity core e pair ≡ Some next) × Leads capacity next.0 es last
+Leads capacity core (e ∷ es) last =
+    (next : Core × Reply) × ((pair : OpenedPair) → step capacity core e pair ≡ Some next) × Leads capacity next.0 es last
 
 -- the core after these rows and no other events
 abbrev pub core_after : List (Row × Seed) → Core
@@ -40,7 +41,8 @@ pair_of e = (e.row, e.seed)
 
 -- as many rows as there is room for lead there
 abbrev pub RowsLead : Type 0
-RowsLead = (capacity : ℕ) (entries : List (Row × Seed)) → length entries ≤ capacity → Leads capacity empty_core (flat_map appending entries) (core_after entries)
+RowsLead = (capacity : ℕ) (entries : List (Row × Seed)) → length entries ≤ capacity
+    → Leads capacity empty_core (flat_map appending entries) (core_after entries)
 
 -- a log of server k without pieces
 pub record IsBlank (k : ℕ) (w : Widths) (n : ℕ) (log : Log) : Type 0 where

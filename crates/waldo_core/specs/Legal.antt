@@ -28,7 +28,8 @@ pub record IsActor (core : Core) (actor : Actor) : Type 0 where
 
 -- the actor of this number has an open draw of this place
 abbrev pub HasOpen : Core → ℕ → ℕ → Type 0
-HasOpen core number place = (actor : Actor) × (draw : Open) × (slice_get core.actors number ≡ Some actor) × (actor.draw ≡ Some draw) × (draw.place ≡ place)
+HasOpen core number place = (actor : Actor) × (draw : Open) × (slice_get core.actors number ≡ Some actor) × (actor.draw ≡ Some draw)
+    × (draw.place ≡ place)
 
 -- A legal core: a journal has each place once, and just places that were drawn; actors are legal; no two open draws have the same
 -- place; and a place that was drawn and is in no open draw is in all three journals.
@@ -38,4 +39,5 @@ pub record IsLegal (core : Core) : Type 0 where
   pub sixteen : length core.actors ≡ 16
   pub actors : All (IsActor core) core.actors
   pub apart : (a b place : ℕ) → HasOpen core a place → HasOpen core b place → a ≡ b
-  pub closed : (k place : ℕ) → place < length core.order → ((number : ℕ) → ¬ HasOpen core number place) → has place (journal_of core k) ≡ true
+  pub closed : (k place : ℕ) → place < length core.order → ((number : ℕ) → ¬ HasOpen core number place)
+      → has place (journal_of core k) ≡ true

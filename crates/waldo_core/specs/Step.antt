@@ -1,5 +1,6 @@
 -- What each event does to the core, and its reply.
-use Rattle.std.specs.Prelude.{ℕ, zero, suc, ◌+◌, ◌&&◌, ◌||◌, Bool, true, false, if◌then◌else◌, nat_lt, is_some, ⊤, Option, Some, None, Result, Ok, Err, List, [], ◌∷◌, ◌++◌, length, slice_get, min, max}
+use Rattle.std.specs.Prelude.{ℕ, zero, suc, ◌+◌, ◌&&◌, ◌||◌, Bool, true, false, if◌then◌else◌, nat_lt, is_some, ⊤, Option, Some, None}
+use Rattle.std.specs.Prelude.{Result, Ok, Err, List, [], ◌∷◌, ◌++◌, length, slice_get, min, max}
 use Rattle.list_facts.specs.Count.{has}
 use Rattle.prg_chacha.specs.declared.seed.Seed.{Seed}
 use Rattle.query_plan.specs.Query.{Suits}
@@ -22,7 +23,8 @@ drawn capacity core number actor entry =
     let place = length core.order in
     let draw : Open = record { place = place; zero = false; one = false; two = false } in
     if nat_lt place capacity
-    then (with_actor (record core { order = core.order ++ entry ∷ [] }) number (record actor { draw = Some draw; fixes = Unfixed }), replies.Drew place)
+    then (with_actor (record core { order = core.order ++ entry ∷ [] }) number
+        (record actor { draw = Some draw; fixes = Unfixed }), replies.Drew place)
     else (core, replies.Full capacity)
 
 -- a place at the journal's end, unless it is there
@@ -48,7 +50,8 @@ with_draw actor draw =
 -- a placing at server k
 abbrev pub placed : Core → ℕ → Actor → ℕ → Open → Core × Reply
 placed core number actor k draw =
-    (with_actor (with_journal core k (with_place draw.place (journal_of core k))) number (with_draw actor (placed_at k draw)), replies.Placed)
+    (with_actor (with_journal core k (with_place draw.place (journal_of core k))) number
+        (with_draw actor (placed_at k draw)), replies.Placed)
 
 -- a look at server k: the floor rises to what is found there
 abbrev pub looked : Core → ℕ → Actor → ℕ → Core × Reply

@@ -3,7 +3,8 @@ ghost use Rattle.std.specs.Prelude.{ℕ, ◌≡◌, ◌<◌, ◌≤◌, ◌+◌,
 ghost use Rattle.agreed_rows.specs.Servers.{IsServer, KeepsFirst};
 ghost use Rattle.waldo_core.specs.Core.{is_pending as pending_in};
 ghost use Rattle.waldo_core.specs.Step.{with_draw};
-ghost use Rattle.waldo_core.specs.Held.{AreFirst, CanPlace, Fixed, Keeps, Looks, Places, fresh_state, log_of, next_server_of, seen_actor, seen_draw};
+ghost use Rattle.waldo_core.specs.Held.{AreFirst, CanPlace, Fixed, Keeps, Looks, Places};
+ghost use Rattle.waldo_core.specs.Held.{fresh_state, log_of, next_server_of, seen_actor, seen_draw};
 
 use crate::draw::OpenDraw;
 use crate::events::Reply;

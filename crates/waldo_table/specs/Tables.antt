@@ -1,5 +1,6 @@
 -- What contracts see of a table and of a pass.
-use Rattle.std.specs.Prelude.{◌≡◌, ℕ, zero, suc, ◌+◌, ◌<◌, ◌≤◌, ⊤, true, false, if◌then◌else◌, List, [], ◌∷◌, ◌++◌, length, max, min, take, slice_get, Some}
+use Rattle.std.specs.Prelude.{◌≡◌, ℕ, zero, suc, ◌+◌, ◌<◌, ◌≤◌, ⊤, true, false, if◌then◌else◌}
+use Rattle.std.specs.Prelude.{List, [], ◌∷◌, ◌++◌, length, max, min, take, slice_get, Some}
 use mathlib.Core.List.{IsPrefix}
 use Rattle.journal_lock.specs.Seats as lock
 use Rattle.list_facts.specs.Count.{has, longer}

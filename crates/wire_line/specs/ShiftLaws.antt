@@ -1,5 +1,6 @@
 -- Messages through a wire that shifts.
-use Rattle.std.proofs.Common.{◌≡◌, ℕ, zero, suc, ◌+◌, ◌<◌, List, [], ◌∷◌, ◌++◌, length, refl, sym, ap, ◌∙◌, arith, append_assoc, append-nil, length-append}
+use Rattle.std.proofs.Common.{◌≡◌, ℕ, zero, suc, ◌+◌, ◌<◌, List, [], ◌∷◌, ◌++◌}
+use Rattle.std.proofs.Common.{length, refl, sym, ap, ◌∙◌, arith, append_assoc, append-nil, length-append}
 use Rattle.wire_line.specs.declared.message.Message.{Message}
 use Rattle.wire_line.specs.declared.shifts.Shift.{Shift}
 use Rattle.wire_line.specs.Messages.{message_at}

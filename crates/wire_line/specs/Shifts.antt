@@ -1,5 +1,6 @@
 -- What a wire does that shifts words.
-use Rattle.std.specs.Prelude.{ℕ, ◌≡◌, ◌+◌, ◌-◌, ◌^◌, ◌==◌, ◌&&◌, min, if◌then◌else◌, Bool, List, [], ◌∷◌, ◌++◌, length, map, filter, nat_eq, Some}
+use Rattle.std.specs.Prelude.{ℕ, ◌≡◌, ◌+◌, ◌-◌, ◌^◌, ◌==◌, ◌&&◌, min, if◌then◌else◌, Bool}
+use Rattle.std.specs.Prelude.{List, [], ◌∷◌, ◌++◌, length, map, filter, nat_eq, Some}
 use Rattle.std.specs.Cmp.Lexicographic.{pointwise}
 use Rattle.list_facts.specs.Listed.{listed}
 use Rattle.ring128.specs.Ring.{sums, total_of}
