@@ -126,7 +126,7 @@ all_parts chunks workers low column whole hs shelf e le p =
 
 -- ---- shares of the chunks
 
--- what is left to share after so many workers
+-- what is left to share after `worker` workers
 abbrev pub left_after : ℕ → ℕ → ℕ → ℕ → ℕ
 left_after count least longer worker = (count - worker) * least + (longer - worker)
 

@@ -31,7 +31,7 @@ pub record RowIs (w : Widths) (k : ℕ) (e : Entry) (r : ℕ) (chunk : List Halv
 abbrev pub AreFilled : Widths → ℕ → List Entry → ℕ → List Halves → Type 0
 AreFilled w k entries n chunk = (r : ℕ) (d : Entry) → r < n → RowIs w k (slice_index_or entries r d) r chunk
 
--- three chunks with room for so many rows
+-- three chunks with room for `rows` rows
 pub record HaveRoom (w : Widths) (rows : ℕ) (trio : Trio) : Type 0 where
   pub zero : HasRoom w rows trio.zero
   pub one : HasRoom w rows trio.one
@@ -48,12 +48,12 @@ pub record Fills (w : Widths) (entries : List Entry) (old new : Trio) : Type 0 w
 abbrev pub rows_here : List Entry → ℕ → List Entry
 rows_here entries j = take 64 (drop (64 * j) entries)
 
--- each row of so many is at its place of the chunks, as the piece of server k
+-- each row is at its place of the chunks, as the piece of server k
 abbrev pub HasPieces : Widths → ℕ → List Entry → List (List Halves) → Type 0
 HasPieces w k entries chunks = (place : ℕ) (d : Entry) → place < length entries
     → RowIs w k (slice_index_or entries place d) (place % 64) (chunk_at chunks (place / 64))
 
--- nothing is shared, and there are so many places
+-- nothing is shared, and there are n places
 pub record IsFree (w : Widths) (n : ℕ) (store : Store) : Type 0 where
   pub none : store.sealed ≡ 0
   pub places : HavePlaces w n store.chunks

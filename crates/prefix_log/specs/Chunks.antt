@@ -67,12 +67,12 @@ first_rows w rows start chunks = record {
   pieces = record { first = rows_at (λ h. h.first) w chunks rows; second = rows_at (λ h. h.second) w chunks rows };
 }
 
--- a chunk has room for so many rows
+-- a chunk has room for `rows` rows
 pub record HasRoom (w : Widths) (rows : ℕ) (chunk : List Halves) : Type 0 where
   pub columns : length chunk ≡ w.columns + 1
   pub room : (column : ℕ) → column ≤ w.columns → rows * width_of w column ≤ (halves_at chunk column).room
 
--- chunks have room for so many places
+-- chunks have room for `capacity` places
 pub record HavePlaces (w : Widths) (capacity : ℕ) (chunks : List (List Halves)) : Type 0 where
   pub count : length chunks ≡ chunks_of capacity
   pub room : (j : ℕ) → j < length chunks → HasRoom w (min 64 (capacity - 64 * j)) (chunk_at chunks j)

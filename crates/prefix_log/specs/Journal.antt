@@ -7,7 +7,7 @@ pub record IsPrefixOf (journal : List ℕ) (n : ℕ) : Type 0 where
   pub below : (place : ℕ) → place < n → has place journal ≡ true
   pub next : has n journal ≡ false
 
--- the first number from n on that is not in the journal, of so many numbers
+-- the first number from n on that is not in the journal, where the first argument says how many are tried
 abbrev pub gap_from : ℕ → ℕ → List ℕ → ℕ
 gap_from zero n journal = n
 gap_from (suc more) n journal = if has n journal then gap_from more (n + 1) journal else n

@@ -12,7 +12,7 @@ pub record IsCut (n : ℕ) (old new : Held) : Type 0 where
   pub first : (column : ℕ) → column ≤ old.columns → new.pieces.first column ≡ take (n * old.width column) (old.pieces.first column)
   pub second : (column : ℕ) → column ≤ old.columns → new.pieces.second column ≡ take (n * old.width column) (old.pieces.second column)
 
--- how many rows the first chunks have, of so many rows
+-- how many of `rows` rows the first chunks have
 abbrev pub rows_before : ℕ → ℕ → ℕ
 rows_before rows chunk = min rows (64 * chunk)
 
@@ -33,7 +33,7 @@ pub record IsPart (low high : ℕ) (whole part : Held) : Type 0 where
       → part.pieces.second column ≡ cells_between (whole.width column) (rows_before whole.rows low) (rows_before whole.rows high)
           (whole.pieces.second column)
 
--- a part has an even share of so many chunks: as many as the others, or one more
+-- a part has an even share of the chunks: as many as the others, or one more
 pub record IsEven (chunks workers : ℕ) (h : Held) : Type 0 where
   pub least : chunks / workers ≤ chunks_of h.rows
   pub most : chunks_of h.rows ≤ chunks / workers + 1

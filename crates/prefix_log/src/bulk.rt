@@ -29,7 +29,7 @@ pub(crate) struct Trio {
     pub done: bool,
 }
 
-// Writes the pieces of rows into the chunks, from the first place on. The only error is want of memory.
+// Writes the pieces of rows into the chunks, from the first place on. The only error is out of memory.
 fn write_rows(
     alloc: Global,
     widths: &Widths,
@@ -80,7 +80,7 @@ fn entries_of(entries: &[Entry], chunk: usize) -> &[Entry]
     &entries[start..(start + 64).min(entries.len())]
 }
 
-// Fills each of the chunks by so many workers: chunk j takes the entries from 64 * j on.
+// Fills each of the chunks, by `workers` threads: chunk j takes the entries from 64 * j on.
 fn fill_all<R: Threads + Sync>(
     rt: &R,
     alloc: Global,

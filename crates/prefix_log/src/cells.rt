@@ -26,7 +26,7 @@ impl Model for Cells {
 }
 
 impl Cells {
-    // No cells, with room for so many of each.
+    // No cells, with room for `room` of each.
     pub fn new(alloc: Global, room: usize) -> Result<Cells, Memory>
         ensures { IfOk result (λ c. room ≤ c.room) }
     {

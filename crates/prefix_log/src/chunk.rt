@@ -27,7 +27,7 @@ impl Model for Chunk {
 }
 
 impl Chunk {
-    // No rows, with room for so many.
+    // No rows, with room for `rows` rows.
     pub fn new(alloc: Global, widths: &Widths, rows: usize) -> Result<Chunk, Memory>
         requires { rows ≤ 64 }
         ensures { IfOk result (HasRoom widths.now rows) }

@@ -38,7 +38,7 @@ impl Model for Chunks {
 }
 
 impl Chunks {
-    // No rows, with room for so many. All memory that pieces will ever want is taken here.
+    // No rows, with room for `capacity` rows. All memory that pieces will ever want is taken here.
     pub fn new(alloc: Global, widths: &Widths, capacity: u32) -> Result<Chunks, Memory>
         requires { capacity ≤ 65536 }
         ensures sealed { IfOk result (λ s. s.sealed ≡ 0) }
@@ -66,7 +66,7 @@ impl Chunks {
         self.unsealed[behind].write(widths, (place % 64) as usize, piece);
     }
 
-    // Seals chunks until so many are. No cell is copied. After want of memory some of them may be sealed.
+    // Seals chunks until `count` are. No cell is copied. Out of memory some of them may be sealed.
     pub fn seal(&mut self, alloc: Global, count: u64) -> Result<(), Memory>
         requires more { self.old.sealed ≤ count }
         requires there { count ≤ length self.old.chunks }
@@ -127,7 +127,7 @@ impl Chunks {
     }
 }
 
-// Chunks with room for so many rows, one behind another in memory, as scans go over them.
+// Chunks with room for `capacity` rows, one behind another in memory, as scans go over them.
 fn free_chunks(
     alloc: Global,
     widths: &Widths,
@@ -146,7 +146,7 @@ fn free_chunks(
     Ok(chunks)
 }
 
-// The same chunks once more, with room for so many. Nothing is copied.
+// The same chunks once more, with room for `capacity` chunks. Nothing is copied.
 pub(crate) fn shared(
     alloc: Global,
     chunks: &[Arc<Chunk>],
@@ -161,8 +161,8 @@ pub(crate) fn shared(
     Ok(again)
 }
 
-// Writes the pieces of as many rows as there are places into the chunks of three servers, by so many workers. The only error is want
-// of memory.
+// Writes the pieces of as many rows as there are places into the chunks of three servers, by `workers` threads. The only error is
+// out of memory.
 pub(crate) fn fill_three<R: Threads + Sync>(
     rt: &R,
     alloc: Global,

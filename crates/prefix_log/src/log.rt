@@ -140,8 +140,8 @@ impl ServerLog {
     }
 }
 
-/// Puts the pieces of rows into the logs of servers 0, 1 and 2 by so many workers: row i at place i, split by its own seed. The logs
-/// have no pieces yet, and as many places as there are rows. The only error is want of memory; the logs then stay without pieces.
+/// Puts the pieces of rows into the logs of servers 0, 1 and 2, by `workers` threads: row i at place i, split by its own seed. The logs
+/// have no pieces yet, and as many places as there are rows. The only error is out of memory; the logs then stay without pieces.
 pub fn append_rows<R: Threads + Sync>(
     rt: &R,
     alloc: Global,

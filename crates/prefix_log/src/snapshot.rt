@@ -58,7 +58,7 @@ impl Snapshot {
 
     /// As many snapshots as there are workers, without visits yet, whose rows one after another are those of this one.
     /// They are cut at the ends of chunks, and their numbers of chunks differ by at most one. Each begins with the chunk
-    /// after the last one of that before it, also where one has no rows. The only error is want of memory.
+    /// after the last one of that before it, also where one has no rows. The only error is out of memory.
     pub fn parts(&self, alloc: Global, workers: u8) -> Result<Vec<Snapshot>, Memory>
         requires { 0 < workers }
         ensures count { IfOk result (λ p. length p.items ≡ workers) }

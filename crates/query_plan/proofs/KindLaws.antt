@@ -35,7 +35,7 @@ pub record Known : Type 0 where
   pub interval_sums : intervals.KeysAddUp
   pub interval_words : intervals.WordsReadBack
 
--- a key of a kind over so many bits that its words give again
+-- a key of a kind over `bits` bits that its words give again
 pub record IsReadBack (kind : Kind) (bits : ℕ) (k : PredicateKey) : Type 0 where
   pub levels : bits_of k ≡ bits
   pub long : length (words_of_key k) ≡ length_of kind bits
@@ -57,7 +57,7 @@ kind_back known kinds.Interval party bits low high weight roots are =
     let b = known.interval_words party bits low high weight roots are in
     record { levels = b.levels; long = b.long; undone = ap keys.Interval b.undone }
 
--- two tables of so many bits whose values add up
+-- two tables of `bits` bits whose values add up
 listed_pair : (bits m n : ℕ) (f g h whole : ℕ → ℕ) → m ≡ bits → n ≡ bits → IsKeyPair bits f g h → ((x : ℕ) → h x ≡ whole x)
     → IsTablePair (2 ^ bits) (listed (2 ^ m) f) (listed (2 ^ n) g) whole
 listed_pair bits m n f g h whole d e pair same = record {

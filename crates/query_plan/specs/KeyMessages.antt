@@ -71,7 +71,7 @@ message_length shape bits = 4 + 2 * run_length bits (parts_of shape)
 abbrev pub part_at : Shape → ℕ → Part
 part_at shape j = get_or shape.parts j (record { column = 0; kind = Point })
 
--- a part on one of so many columns
+-- a part on one of `columns` columns
 abbrev pub HasColumn : ℕ → Part → Type 0
 HasColumn columns part = part.column < columns
 

@@ -17,7 +17,7 @@ use Rattle.query_plan.specs.declared.key.PredicateKey.TheVariants as keys
 use Rattle.query_plan.specs.declared.key.KeyPair.{KeyPair}
 use Rattle.query_plan.specs.declared.query.Predicate.{Predicate}
 
--- the key of a party, by kind, for the buckets from low to high of a column of so many bits, with a weight, from four roots:
+-- the key of a party, by kind, for the buckets from low to high of a column of `bits` bits, with a weight, from four roots:
 -- those of party 0 and party 1, and for the lower end of an interval those of party 0 and party 1
 abbrev pub key_of_kind : Kind → Party → ℕ → ℕ → ℕ → ℕ → List Seed → PredicateKey
 key_of_kind kinds.Point party bits low high weight roots =
@@ -29,7 +29,7 @@ key_of_kind kinds.Interval party bits low high weight roots = keys.Interval (int
 abbrev pub key_for : Party → ℕ → Predicate → ℕ → List Seed → PredicateKey
 key_for party bits p weight roots = key_of_kind p.kind party bits p.low p.high weight roots
 
--- how many words the key of a predicate of this kind has, over a column of so many bits
+-- how many words the key of a predicate of this kind has, over a column of `bits` bits
 abbrev pub length_of : Kind → ℕ → ℕ
 length_of kinds.Point bits = point_words.length_of bits
 length_of kinds.AtMost bits = compare_words.length_of bits

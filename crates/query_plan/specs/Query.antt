@@ -29,7 +29,7 @@ IsKind Point low high = low ≡ high
 IsKind AtMost low high = low ≡ 0
 IsKind Interval low high = low ≤ high
 
--- a predicate on one of so many columns of these bits, within its buckets
+-- a predicate on one of `columns` columns of these bits, within its buckets
 pub record IsPredicate (columns : ℕ) (bits : List ℕ) (p : Predicate) : Type 0 where
   pub column : p.column < columns
   pub high : p.high < 2 ^ get_or bits p.column 0
@@ -46,7 +46,7 @@ IsPlaced columns bits query i =
     MatchBool (nat_lt i query.count)
         (IsNext columns bits (take i query.predicates) (predicate_at query i)) (predicate_at query i ≡ no_predicate)
 
--- a legal query over so many columns of these bits: 1 to 4 predicates, each on a column of its own
+-- a legal query over `columns` columns of these bits: 1 to 4 predicates, each on a column of its own
 pub record Suits (columns : ℕ) (bits : List ℕ) (query : Query) : Type 0 where
   pub some : 1 ≤ query.count
   pub few : query.count ≤ 4

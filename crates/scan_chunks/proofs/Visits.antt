@@ -25,7 +25,7 @@ on_err_of : {T E P : Type 0} (r : Result T E) → P → OnErr r P
 on_err_of (Ok x) p = tt
 on_err_of (Err e) p = p
 
--- want of memory after the first visits
+-- out of memory after the first visits
 pub stopped : {T E : Type 0} (r : Result T E) (h : Held) (column n : ℕ) (old new : List Visit) → n ≤ chunks_of h.rows
     → new ≡ old ++ visits_to h column n → OnErr r (VisitsPart old new (visits_of h column))
 stopped r h column n old new le e = on_err_of r (n, e ∙ ap (λ (vs : List Visit). old ++ vs) (visits_part h column n le))

@@ -78,7 +78,7 @@ total_below f [] (suc i) = omega arith
 total_below f (x ∷ xs) zero = omega arith
 total_below f (x ∷ xs) (suc i) = omega (arith, total_below f xs i)
 
--- so many cells a row
+-- `width` cells a row
 pub cells_long : (column w : ℕ) (hs : List Held) → All (λ (h : Held). h.width column ≡ w) hs → All (λ (h : Held). length (h.pieces.first column) ≡ h.rows * h.width column) hs
     → length (flat_map (λ (h : Held). h.pieces.first column) hs) ≡ total (λ (h : Held). h.rows) hs * w
 cells_long column w [] wide long = omega arith

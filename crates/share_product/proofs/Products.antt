@@ -57,7 +57,7 @@ rows_with_zero : (a a' b b' : List ℕ) (own next : Seed) (start n : ℕ) → n 
     → sums (locals_of a a' b b') (parts_of own next start n) ≡ local_rows_of a a' b b' own next start
 rows_with_zero a a' b b' own next start n e = rw e (sums-listed (length a) _ _)
 
--- the same, where the parts of zero are added to a vector of so many rows in place
+-- the same, where the parts of zero are added to a vector, row by row in place
 pub rows_in_place : (a a' b b' : List ℕ) (own next : Seed) (start len : ℕ) (rows lent words : List ℕ)
     → rows ≡ locals_of a a' b b' → len ≡ length rows → lent ≡ rows → words ≡ sums lent (parts_of own next start (length lent))
     → take len (words ++ drop (length words) rows) ≡ local_rows_of a a' b b' own next start

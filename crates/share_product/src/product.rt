@@ -16,7 +16,7 @@ pub fn local(a: Pair, b: Pair) -> u128
 }
 
 /// A server's parts of the products of two lists, place by place, each with the part of zero at `start` plus its
-/// place. The result is as long as the two lists. The only error is want of memory.
+/// place. The result is as long as the two lists. The only error is out of memory.
 pub fn local_rows(
     alloc: Global,
     a: &PairList,

@@ -9,7 +9,7 @@ use Rattle.visit_trace.specs.Seen.{AllSeen, alike}
 use Rattle.visit_trace.specs.Sizes.{count_of, opened_columns, predicate_columns, run_columns, query_columns}
 use Rattle.visit_trace.specs.declared.sizes.Sizes.{Sizes}
 
--- each chunk of a column of so many rows once, rising
+-- each chunk of a column of n rows once, rising
 abbrev pub chunk_visits : ℕ → ℕ → List Visit
 chunk_visits rows column = listed (chunks_of rows) (λ c. record { column = column; chunk = c })
 
@@ -29,7 +29,7 @@ step_lengths z = z.rows ∷ z.rows ∷ []
 abbrev pub keys_part : Sizes → AllSeen
 keys_part z = part_seen z [] (message_length z.shape z.widths.bits ∷ [])
 
--- the lengths of the bits and products of a run with so many predicates: the bits of each, and all products but the first
+-- the lengths of the bits and products of a run with `count` predicates: the bits of each, and all products but the first
 abbrev pub product_lengths : Sizes → ℕ → List ℕ
 product_lengths z count = listed (2 * (2 * count - 1)) (λ i. z.rows)
 

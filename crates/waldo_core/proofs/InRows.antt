@@ -72,7 +72,7 @@ heads x y xs ys e = ap (λ (l : List _). get_or l 0 x) e
 tails : {A : Type 0} (x y : A) (xs ys : List A) → x ∷ xs ≡ y ∷ ys → xs ≡ ys
 tails x y xs ys e = ap (drop 1) e
 
--- so many actors but the first
+-- `n` actors but the first
 listed_fresh : (n : ℕ) → drop 1 (listed (suc n) (λ (i : ℕ). fresh)) ≡ listed n (λ (i : ℕ). fresh)
 listed_fresh n = shifted 0 1 n
   where
@@ -105,7 +105,7 @@ module _ (held : Snapshot → Held) where
       let tail : map (seen_actor held) actors ≡ listed n (λ (i : ℕ). fresh) = tails _ _ _ _ e ∙ listed_fresh n in
       fresh_at n actors tail i a is
 
-  -- the first actor has seen so many rows
+  -- the first actor has seen all rows
   pub first_taken : (m : ℕ) (actors : List ActorState) (x a : ActorState) → map (seen_actor held) actors ≡ listed 16 (λ (i : ℕ). fresh) → slice_get actors 0 ≡ Some x
       → a ≡ record x { floor = m } → map (seen_actor held) (set actors 0 a) ≡ record { floor = m; draw = None; fixes = Unfixed } ∷ listed 15 (λ (i : ℕ). fresh)
   first_taken m [] x a e is new = absurd cc

@@ -52,7 +52,7 @@ fault_answers command w of fault rows carried unaltered none is (Ok reply) said 
       accepted = λ still seven. refusal_status fault (sym (ap (λ (r : Reply). r.status) said.0) ∙ seven);
     }
 
--- nothing was done for want of memory
+-- nothing was done, as memory ran out
 pub none_answers : (command : Command) (w : Widths) → AreWidthsIn command w → (rows : Result (List Row) RowFault) (carried : List Done → Type 0) (unaltered : ℕ → Type 0)
     → carried [] → (result : Result Reply Memory) → IsErr result → Answers command rows carried unaltered result
 none_answers command w of rows carried unaltered none (Err memory) err =
@@ -232,7 +232,7 @@ pub nothing_breaks : (command : Result Command WordFault) (source : Change) (car
 nothing_breaks (Err fault) source carried none = record { history = []; sent = none; begun = refl }
 nothing_breaks (Ok command) source carried none = record { history = []; sent = none; begun = inl refl }
 
--- what reading gave, where it isn't want of memory
+-- what reading gave, where it isn't out of memory
 pub refused_words : (command : Result Command WordFault) (fault : WordFault) → (fault ≢ faults.Memory) → (fault ≡ faults.Memory) ⊎ (command ≡ Err fault) → command ≡ Err fault
 refused_words command fault other gave = elim gave [ inl memory ↦ absurd (other memory) | inr is ↦ is ]
 

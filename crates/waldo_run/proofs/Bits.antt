@@ -19,7 +19,7 @@ same_bits w c = elim (cases_lt c w.columns) [
   | inr past ↦ get_or_past (column_bits w) c 0 (omega (arith, length-take w.columns w.bits, past)) ∙ sym (w.legal.3 c past)
 ]
 
--- so many buckets, as the code has their number
+-- the number of buckets of a column, as the code has it
 pub shifted : (w : Widths) (c : ℕ) → (1 * 2 ^ get_or w.bits c 0) % 2 ^ 64 ≡ 2 ^ get_or w.bits c 0
 shifted w c = one_shl (get_or w.bits c 0) 64 (omega (arith, small w c))
 

@@ -26,7 +26,7 @@ use Rattle.waldo_words.specs.declared.value.Value.TheVariants as value
 abbrev pub SuitsColumns : List Column → Query → Type 0
 SuitsColumns columns q = (w : Widths) → AreWidthsOf columns w → Suits w.columns w.bits q
 
--- so many workers, writers, askers or rounds
+-- a number of workers, writers, askers or rounds
 abbrev pub IsFew : ℕ → Type 0
 IsFew n = (1 ≤ n) × (n ≤ 16)
 

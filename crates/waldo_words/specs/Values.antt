@@ -43,6 +43,6 @@ zero_seed = record { words = replicate 8 0 }
 abbrev pub bits_in : List Column → List ℕ
 bits_in columns = map (λ (k : Column). k.bits) columns
 
--- the number of rows of a text, where a table of these columns may have room for so many
+-- the number of rows of a text, where a table of these columns may have room for as many
 unfoldable pub capacity_of : List Column → List ℕ → Option ℕ
 capacity_of columns text = number_of text >>= λ n. if fits_in (bits_in columns) n then Some n else None

@@ -9,6 +9,6 @@ use Rattle.ring128.specs.Ring.{minus}
 abbrev pub part_of : Seed → Seed → ℕ → ℕ
 part_of own next c = minus (pad_of own c) (pad_of next c)
 
--- the parts at so many counters from one on
+-- the parts at `n` counters from `start` on
 abbrev pub parts_of : Seed → Seed → ℕ → ℕ → List ℕ
 parts_of own next start n = listed n (λ i. part_of own next (start + i))
