@@ -146,7 +146,7 @@ fn free_chunks(
     Ok(chunks)
 }
 
-// The same chunks once more, with room for `capacity` chunks. Nothing is copied.
+// The same chunks once more, with room for `room` chunks. Nothing is copied.
 pub(crate) fn shared(
     alloc: Global,
     chunks: &[Arc<Chunk>],
