@@ -58,10 +58,10 @@ answer_same core (Agreed n) query seed p q = (refl, asked_reply n (judged query 
 
 acts_same : (capacity : ℕ) (core : Core) (event : Event) (p q : OpenedPair) (o : Option Actor) → SameSteps (acts capacity core event p o) (acts capacity core event q o)
 acts_same capacity core event p q None = tt
-acts_same capacity core (events.Draw number row seed) p q (Some actor) = same_itself _
-acts_same capacity core (events.Place number k) p q (Some actor) = same_itself _
-acts_same capacity core (events.Look number k) p q (Some actor) = same_itself _
-acts_same capacity core (events.Fix number) p q (Some actor) = same_itself _
+acts_same capacity core (events.Draw number row seed) p q (Some actor) = same_itself (acts capacity core (events.Draw number row seed) p (Some actor))
+acts_same capacity core (events.Place number k) p q (Some actor) = same_itself (acts capacity core (events.Place number k) p (Some actor))
+acts_same capacity core (events.Look number k) p q (Some actor) = same_itself (acts capacity core (events.Look number k) p (Some actor))
+acts_same capacity core (events.Fix number) p q (Some actor) = same_itself (acts capacity core (events.Fix number) p (Some actor))
 acts_same capacity core (events.Answer number query seed) p q (Some actor) = answer_same core actor.fixes query seed p q
 
 module _ (s : Setting) where

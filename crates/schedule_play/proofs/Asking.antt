@@ -1,5 +1,5 @@
 -- The sizes of a single step's answer, and of queries that actor 0 asks over all rows.
-use Rattle.std.proofs.Common.{◌≡◌, ◌∙◌, refl, sym, ap, subst, ℕ, suc, ◌+◌, Bool, List, [], ◌∷◌, ◌++◌, append-nil, append_assoc, length, slice_get, Option, Some, None, option_map, Result, Ok, Err, min, arith}
+use Rattle.std.proofs.Common.{◌≡◌, ◌∙◌, refl, sym, ap, subst, ℕ, suc, ◌+◌, Bool, false, ◌||◌, List, [], ◌∷◌, ◌++◌, append-nil, append_assoc, length, slice_get, Option, Some, None, option_map, Result, Ok, Err, min, arith}
 use Rattle.std.proofs.lemmas.Bool.{le-ltb}
 use Rattle.std.specs.List.{flat_map, range_with_len}
 use Rattle.prg_chacha.specs.declared.seed.Seed.{Seed}
@@ -23,6 +23,7 @@ use Rattle.waldo_words.specs.declared.schedule.Step.{Step}
 use Rattle.waldo_words.specs.declared.schedule.Step.TheVariants as steps
 use Rattle.schedule_play.specs.Appended.{stage_with_rows}
 use Rattle.schedule_play.specs.History.{HasNoCase, nothing_opened}
+use Rattle.schedule_play.specs.Laws.{checked_line}
 use Rattle.schedule_play.specs.Stages.{Stage, event_of, next_stage, step_of, with_reply}
 use Rattle.schedule_play.specs.Tasks.{Setting, ask_steps, room_of}
 use Rattle.schedule_play.specs.Traces.{AddsTraces, agreed_sizes, asked_sizes, event_sizes, sizes_behind, sizes_from, sizes_over, traces_of}
@@ -149,17 +150,24 @@ module _ (w : Widths) (s : Setting) where
         let query_is : slice_get s.queries q ≡ Some query = ap (slice_get s.queries) here ∙ rest_is 0 in
         let others_at : (k : ℕ) → slice_get s.queries (q + 1 + k) ≡ slice_get rest k =
         λ k. let on : q + 1 + k ≡ q + suc k = omega arith in ap (slice_get s.queries) on ∙ rest_is (suc k) in
-        to_next _ _ (steps.Fix 0) (steps.Fix 0 ∷ steps.Fix 0 ∷ steps.Answer 0 q ∷ xs) (first_fix fixes q lines altered idle)
-        ∙ to_next _ _ (steps.Fix 0) (steps.Fix 0 ∷ steps.Answer 0 q ∷ xs) (second_fix q lines altered)
-        ∙ to_next _ _ (steps.Fix 0) (steps.Answer 0 q ∷ xs) (third_fix q lines altered)
-        ∙ to_next _ _ (steps.Answer 0 q) xs (answers s order j n others rounds lines altered q query nothing_opened query_is)
-        ∙ ap (λ (l : List Sizes). l ++ sizes_from w s (at (Agreed n) (q + 1) _ _) xs) (answer_sizes q query lines altered query_is)
-        ∙ ap (λ (l : List Sizes). sizes_over w n query ∷ l) (all_sizes rest (q + 1) (Agreed n) _ _ tt others_at)
+        let verdict = check_of s q query nothing_opened in
+        let all = lines ++ checked_line n q query verdict ∷ [] in
+        let some = altered || is_refused verdict in
+        let first = at (First n) q lines altered in
+        let second = at (Second n n) q lines altered in
+        let fixed = at (Agreed n) q lines altered in
+        let after = at (Agreed n) (q + 1) all some in
+        to_next (at fixes q lines altered) first (steps.Fix 0) (steps.Fix 0 ∷ steps.Fix 0 ∷ steps.Answer 0 q ∷ xs) (first_fix fixes q lines altered idle)
+        ∙ to_next first second (steps.Fix 0) (steps.Fix 0 ∷ steps.Answer 0 q ∷ xs) (second_fix q lines altered)
+        ∙ to_next second fixed (steps.Fix 0) (steps.Answer 0 q ∷ xs) (third_fix q lines altered)
+        ∙ to_next fixed after (steps.Answer 0 q) xs (answers s order j n others rounds lines altered q query nothing_opened query_is)
+        ∙ ap (λ (l : List Sizes). l ++ sizes_from w s after xs) (answer_sizes q query lines altered query_is)
+        ∙ ap (λ (l : List Sizes). sizes_over w n query ∷ l) (all_sizes rest (q + 1) (Agreed n) all some tt others_at)
 
   -- over all rows
   pub asked_over : sizes_from w s (stage_with_rows s) (flat_map ask_steps (range_with_len 0 (length s.queries))) ≡ asked_sizes w (length s.rows) s.queries
   asked_over =
       let none : (k : ℕ) → 0 + k ≡ k = λ k. omega arith in
       subst (λ (stage : Stage). sizes_from w s stage (flat_map ask_steps (range_with_len 0 (length s.queries))) ≡ asked_sizes w (length s.rows) s.queries) (with_rows_is s)
-      (all_sizes (all_entries s) (all_numbers s) other_actors other_rounds (prefix-numbers_below (length s.rows)) s.queries 0 Unfixed [] _ tt
+      (all_sizes (all_entries s) (all_numbers s) other_actors other_rounds (prefix-numbers_below (length s.rows)) s.queries 0 Unfixed [] false tt
       (λ k. ap (slice_get s.queries) (none k)))

@@ -87,15 +87,16 @@ module _ (w : Widths) (s : Setting) where
   sizes_both style (x ∷ xs) ys (d ∷ ds) a stage mid e p =
       let here = event_sizes w a.core (event_of s a x) in
       let last = sizes_from w s mid ys in
-      ap (λ (l : List Sizes). here ++ l) (by _ _ (next_alike s Queries style a stage x nothing_opened d.pair e) p.2)
+      ap (λ (l : List Sizes). here ++ l) (by (λ u v. sizes_both style xs ys ds u v mid) _ _ (next_alike s Queries style a stage x nothing_opened d.pair e) p.2)
       ∙ sym (append_assoc here (sizes_behind (λ (next : Stage). sizes_from w s next xs) (next_stage s Queries a x nothing_opened)) last)
     where
-      by : (o q : Option Stage) → AlikeAfter o q → IsSomeAnd q (λ (next : Stage). Advances w s style next xs ds mid)
+      by : ((u v : Stage) → AreAlike u v → Advances w s style v xs ds mid → sizes_from w s u (xs ++ ys) ≡ sizes_from w s u xs ++ sizes_from w s mid ys)
+          → (o q : Option Stage) → AlikeAfter o q → IsSomeAnd q (λ (next : Stage). Advances w s style next xs ds mid)
           → sizes_behind (λ (next : Stage). sizes_from w s next (xs ++ ys)) o ≡ sizes_behind (λ (next : Stage). sizes_from w s next xs) o ++ sizes_from w s mid ys
-      by None None e p = absurd p
-      by None (Some v) e p = absurd e
-      by (Some u) None e p = absurd p
-      by (Some u) (Some v) e p = sizes_both style xs ys ds u v mid e p
+      by rest None None e p = absurd p
+      by rest None (Some v) e p = absurd e
+      by rest (Some u) None e p = absurd p
+      by rest (Some u) (Some v) e p = rest u v e p
 
   -- steps behind one without a case
   pub sizes_refused : (style : Style) (xs ys : List Step) (ds : List Done) (a stage : Stage) → AreAlike a stage → IsHistory w s style stage xs ds → length ds < length xs
@@ -110,30 +111,33 @@ module _ (w : Widths) (s : Setting) where
       by (Some u) None e none = absurd e
       by (Some u) (Some v) e none = cc
   sizes_refused style (x ∷ xs) ys (d ∷ ds) a stage e h lt =
-      ap (λ (l : List Sizes). event_sizes w a.core (event_of s a x) ++ l) (by _ _ (next_alike s Queries style a stage x nothing_opened d.pair e) h.2)
+      ap (λ (l : List Sizes). event_sizes w a.core (event_of s a x) ++ l) (by (λ u v alike history. sizes_refused style xs ys ds u v alike history (omega (arith, lt))) _ _
+      (next_alike s Queries style a stage x nothing_opened d.pair e) h.2)
     where
-      by : (o q : Option Stage) → AlikeAfter o q → IsSomeAnd q (λ (next : Stage). IsHistory w s style next xs ds)
+      by : ((u v : Stage) → AreAlike u v → IsHistory w s style v xs ds → sizes_from w s u (xs ++ ys) ≡ sizes_from w s u xs)
+          → (o q : Option Stage) → AlikeAfter o q → IsSomeAnd q (λ (next : Stage). IsHistory w s style next xs ds)
           → sizes_behind (λ (next : Stage). sizes_from w s next (xs ++ ys)) o ≡ sizes_behind (λ (next : Stage). sizes_from w s next xs) o
-      by None None e p = absurd p
-      by None (Some v) e p = absurd e
-      by (Some u) None e p = absurd p
-      by (Some u) (Some v) e p = sizes_refused style xs ys ds u v e p (omega (arith, lt))
+      by rest None None e p = absurd p
+      by rest None (Some v) e p = absurd e
+      by rest (Some u) None e p = absurd p
+      by rest (Some u) (Some v) e p = rest u v e p
 
   -- a prefix of steps has a prefix of the sizes
   pub sizes_more : (xs ys : List Step) (a : Stage) → (more : List Sizes) × (sizes_from w s a (xs ++ ys) ≡ sizes_from w s a xs ++ more)
   sizes_more [] ys a = (sizes_from w s a ys, refl)
   sizes_more (x ∷ xs) ys a =
       let here = event_sizes w a.core (event_of s a x) in
-      let q = by (next_stage s Queries a x nothing_opened) in (
+      let q = by (sizes_more xs ys) (next_stage s Queries a x nothing_opened) in (
         q.0,
         ap (λ (l : List Sizes). here ++ l) q.1
             ∙ sym (append_assoc here (sizes_behind (λ (next : Stage). sizes_from w s next xs) (next_stage s Queries a x nothing_opened)) q.0),
       )
     where
-      by : (o : Option Stage) → (more : List Sizes)
+      by : ((next : Stage) → (more : List Sizes) × (sizes_from w s next (xs ++ ys) ≡ sizes_from w s next xs ++ more))
+          → (o : Option Stage) → (more : List Sizes)
           × (sizes_behind (λ (next : Stage). sizes_from w s next (xs ++ ys)) o ≡ sizes_behind (λ (next : Stage). sizes_from w s next xs) o ++ more)
-      by None = ([], refl)
-      by (Some next) = sizes_more xs ys next
+      by rest None = ([], refl)
+      by rest (Some next) = rest next
 
   -- ---- steps
 
