@@ -1,7 +1,6 @@
 -- Stages that differ in their lines alone: what an answer opens changes nothing else.
-use Rattle.std.proofs.Common.{◌≡◌, ◌∙◌, refl, sym, ap, subst, ℕ, ◌+◌, Bool, true, false, cond, List, length, get_or, set, slice_get, Option, Some, None, option_map, Result, Ok, Err}
+use Rattle.std.proofs.Common.{◌≡◌, ◌∙◌, refl, sym, ap, subst, ℕ, ◌+◌, Bool, true, cond, List, length, get_or, set, slice_get, Option, Some, None, option_map, Result, Ok, Err}
 use Rattle.std.specs.Prelude.{⊤}
-use Rattle.agreed_rows.specs.Answers.{judged}
 use Rattle.prg_chacha.specs.Prg.{derive_of}
 use Rattle.prg_chacha.specs.declared.seed.Seed.{Seed}
 use Rattle.query_plan.specs.declared.query.Query.{Query}
@@ -54,7 +53,7 @@ answer_same : (core : Core) (fixes : Fixes) (query : Query) (seed : Seed) (p q :
 answer_same core Unfixed query seed p q = tt
 answer_same core (First n) query seed p q = tt
 answer_same core (Second n m) query seed p q = tt
-answer_same core (Agreed n) query seed p q = (refl, asked_reply n (judged query seed p) ∙ sym (asked_reply n (judged query seed q)))
+answer_same core (Agreed n) query seed p q = (refl, asked_reply n _ ∙ sym (asked_reply n _))
 
 acts_same : (capacity : ℕ) (core : Core) (event : Event) (p q : OpenedPair) (o : Option Actor) → SameSteps (acts capacity core event p o) (acts capacity core event q o)
 acts_same capacity core event p q None = tt

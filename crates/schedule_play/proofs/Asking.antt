@@ -1,24 +1,22 @@
 -- The sizes of a single step's answer, and of queries that actor 0 asks over all rows.
-use Rattle.std.proofs.Common.{◌≡◌, ◌∙◌, refl, sym, ap, subst, ℕ, suc, ◌+◌, Bool, false, ◌||◌, List, [], ◌∷◌, ◌++◌, append-nil, append_assoc, length, slice_get, Option, Some, None, option_map, Result, Ok, Err, min, arith}
+use Rattle.std.proofs.Common.{◌≡◌, ◌∙◌, refl, sym, ap, subst, ℕ, suc, ◌+◌, Bool, false, ◌||◌, List, [], ◌∷◌, ◌++◌, append-nil, length, slice_get, Option, Some, None, option_map, min, arith}
 use Rattle.std.proofs.lemmas.Bool.{le-ltb}
 use Rattle.std.specs.List.{flat_map, range_with_len}
 use Rattle.prg_chacha.specs.declared.seed.Seed.{Seed}
 use Rattle.query_plan.specs.declared.query.Query.{Query}
 use Rattle.report_lines.specs.declared.lines.Line.{Line}
-use Rattle.server_rounds.specs.declared.opened.OpenedPair.{OpenedPair}
 use Rattle.table_schema.specs.declared.rows.Row.{Row}
 use Rattle.table_schema.specs.declared.widths.Widths.{Widths}
-use Rattle.visit_trace.specs.Growing.{grew_nothing, prefix_none, prefix_whole}
+use Rattle.visit_trace.specs.Growing.{grew_nothing}
 use Rattle.visit_trace.specs.Seen.{AllSeen, Grew, GrewPrefix}
 use Rattle.visit_trace.specs.declared.sizes.Sizes.{Sizes}
 use Rattle.waldo_core.specs.Answers.{agreed_in, rows_agreed}
 use Rattle.waldo_core.specs.Core.{Actor, Core, Fixes, prefix}
 use Rattle.waldo_core.specs.Core.Fixes.{Unfixed, First, Second, Agreed}
-use Rattle.waldo_core.specs.Step.{acts, actor_of, answer_step, step}
+use Rattle.waldo_core.specs.Step.{acts, answer_step, step}
 use Rattle.waldo_core.specs.Traces.{seen_of, seen_over}
 use Rattle.waldo_core.specs.declared.events.Event.{Event}
 use Rattle.waldo_core.specs.declared.events.Event.TheVariants as events
-use Rattle.waldo_core.specs.declared.events.Reply.{Reply}
 use Rattle.waldo_words.specs.declared.schedule.Step.{Step}
 use Rattle.waldo_words.specs.declared.schedule.Step.TheVariants as steps
 use Rattle.schedule_play.specs.Appended.{stage_with_rows}
@@ -26,11 +24,10 @@ use Rattle.schedule_play.specs.History.{HasNoCase, nothing_opened}
 use Rattle.schedule_play.specs.Laws.{checked_line}
 use Rattle.schedule_play.specs.Stages.{Stage, event_of, next_stage, step_of, with_reply}
 use Rattle.schedule_play.specs.Tasks.{Setting, ask_steps, room_of}
-use Rattle.schedule_play.specs.Traces.{AddsTraces, agreed_sizes, asked_sizes, event_sizes, sizes_behind, sizes_from, sizes_over, traces_of}
-use Rattle.schedule_play.specs.declared.play.PlayFault.TheVariants.{NotAllowed, Memory}
+use Rattle.schedule_play.specs.Traces.{agreed_sizes, asked_sizes, event_sizes, sizes_behind, sizes_from, sizes_over, traces_of}
 use Rattle.schedule_play.specs.declared.style.Style.{Style}
 use Rattle.schedule_play.specs.declared.style.Style.TheVariants.{Queries}
-use Rattle.schedule_play.proofs.AppendedRows.{all_entries, all_numbers, other_actors, other_rounds, with_rows}
+use Rattle.schedule_play.proofs.AppendedRows.{all_entries, all_numbers, other_actors, other_rounds}
 use Rattle.schedule_play.proofs.AskedQueries.{IsIdle, answers, check_of, is_refused, or_none, with_fixes}
 use Rattle.schedule_play.proofs.RowNumbers.{prefix-numbers_below}
 use Rattle.schedule_play.proofs.Tracing.{traces_single}

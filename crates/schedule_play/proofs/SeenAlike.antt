@@ -1,5 +1,5 @@
 -- What the servers see of queries follows from their shapes.
-use Rattle.std.proofs.Common.{◌≡◌, ◌∙◌, refl, sym, ap, subst, ℕ, List, [], ◌∷◌, ◌++◌, map}
+use Rattle.std.proofs.Common.{◌≡◌, ◌∙◌, refl, sym, ap, subst, ℕ, List, [], ◌∷◌, map}
 use Rattle.query_plan.specs.Query.{shaped}
 use Rattle.query_plan.specs.declared.query.Query.{Query}
 use Rattle.scan_chunks.specs.declared.visit.Visit.{Visit}

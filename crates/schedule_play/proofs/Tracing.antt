@@ -1,18 +1,15 @@
 -- What the servers see of steps, one after another.
-use Rattle.std.proofs.Common.{◌≡◌, ◌∙◌, refl, sym, ap, subst, ℕ, ◌<◌, Bool, cond, List, [], ◌∷◌, ◌++◌, append-nil, append_assoc, length, get_or, set, Option, Some, None, option_map, IsSomeAnd, Result, Ok, Err, arith}
-use Rattle.prg_chacha.specs.Prg.{derive_of}
-use Rattle.query_plan.specs.declared.query.Query.{Query}
-use Rattle.server_rounds.specs.declared.opened.OpenedPair.{OpenedPair}
+use Rattle.std.proofs.Common.{◌≡◌, ◌∙◌, refl, sym, ap, subst, ℕ, ◌<◌, List, [], ◌∷◌, ◌++◌, append-nil, append_assoc, length, Option, Some, None, IsSomeAnd, arith}
 use Rattle.table_schema.specs.declared.widths.Widths.{Widths}
 use Rattle.visit_trace.specs.Expected.{trace_of}
-use Rattle.visit_trace.specs.Growing.{grew_both, grew_nothing, prefix_begun, prefix_cut, prefix_whole, seen_then, then_at}
+use Rattle.visit_trace.specs.Growing.{grew_both, prefix_begun, prefix_cut, seen_then, then_at}
 use Rattle.visit_trace.specs.Seen.{AllSeen, Grew, GrewPrefix, Seen, alike, nothing}
 use Rattle.visit_trace.specs.declared.sizes.Sizes.{Sizes}
 use Rattle.scan_chunks.specs.declared.visit.Visit.{Visit}
 use Rattle.waldo_core.specs.Core.{Core}
 use Rattle.waldo_core.specs.declared.events.Event.{Event}
 use Rattle.waldo_words.specs.declared.schedule.Step.{Step}
-use Rattle.schedule_play.specs.History.{Done, HasNoCase, IsHistory, nothing_opened}
+use Rattle.schedule_play.specs.History.{Done, IsHistory, nothing_opened}
 use Rattle.schedule_play.specs.Leads.{Advances, EndsAt}
 use Rattle.schedule_play.specs.Stages.{Stage, event_of, next_stage}
 use Rattle.schedule_play.specs.Tasks.{Setting}

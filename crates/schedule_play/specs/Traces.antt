@@ -1,5 +1,5 @@
 -- What the servers see of steps: of each answer the trace of its sizes, and of any other step nothing.
-use Rattle.std.specs.Prelude.{◌≡◌, ℕ, Option, Some, None, Result, Ok, Err, List, [], ◌∷◌, ◌++◌, map, slice_get}
+use Rattle.std.specs.Prelude.{ℕ, Option, Some, None, Result, Ok, Err, List, [], ◌∷◌, ◌++◌, map, slice_get}
 use Rattle.query_plan.specs.Query.{shaped}
 use Rattle.query_plan.specs.declared.query.Query.{Query}
 use Rattle.table_schema.specs.declared.widths.Widths.{Widths}
