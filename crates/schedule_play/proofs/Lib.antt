@@ -1,8 +1,10 @@
 pub mod Advancing
+pub mod Alike
 pub mod AppendedRows
 pub mod AskedHonest
 pub mod AskedPlain
 pub mod AskedQueries
+pub mod Asking
 pub mod Cases
 pub mod Going
 pub mod Growing
@@ -14,5 +16,7 @@ pub mod Plainly
 pub mod Readying
 pub mod RowNumbers
 pub mod Seeding
+pub mod SeenAlike
 pub mod Single
+pub mod Tracing
 pub mod Unasked

@@ -89,7 +89,7 @@ honest unaltered [] = tt
 honest unaltered (x ∷ xs) = ((λ still. honest_none), honest unaltered xs)
 
 -- the stage once all rows were appended
-with_rows_is : (s : Setting) → with_rows (all_entries s) (length s.rows) other_actors (0 ∷ other_rounds) ≡ stage_with_rows s
+pub with_rows_is : (s : Setting) → with_rows (all_entries s) (length s.rows) other_actors (0 ∷ other_rounds) ≡ stage_with_rows s
 with_rows_is s =
     ap (λ (n : ℕ). with_rows (all_entries s) n other_actors (0 ∷ other_rounds)) (sym (length-seeded_rows s.master 0 s.rows))
     ∙ ap (λ (l : List ℕ). record first_stage { core = record (core_after (all_entries s)) { zero = l; one = l; two = l } }) (numbers_are (length (all_entries s)))

@@ -1,5 +1,6 @@
 -- What the definitions say together.
-use Rattle.std.specs.Prelude.{ℕ, ◌≡◌, ◌+◌, ◌*◌, ⊤, false, Some, Result, Ok, Err, List, [], ◌∷◌, length, slice_get}
+use Rattle.std.specs.Prelude.{ℕ, ◌≡◌, ◌+◌, ◌*◌, ⊤, false, Some, Result, Ok, Err, List, [], ◌∷◌, length, map, slice_get}
+use Rattle.query_plan.specs.Query.{shaped}
 use Rattle.query_plan.specs.Seeds.{weights_of}
 use Rattle.query_plan.specs.Views.{key_from}
 use Rattle.query_plan.specs.declared.query.Query.{Query}
@@ -11,6 +12,7 @@ use Rattle.prg_chacha.specs.Prg.{derive_of}
 use Rattle.table_schema.specs.declared.widths.Widths.{Widths}
 use Rattle.onehot_column.specs.Code.{word_of}
 use Rattle.transcript.specs.Plain.{plain}
+use Rattle.visit_trace.specs.Seen.{AllSeen, Grew}
 use Rattle.wire_line.specs.Messages.{IsHonest}
 use Rattle.wire_line.specs.declared.message.Message.{Message}
 use Rattle.weighted_check.specs.Check.{checked}
@@ -20,6 +22,7 @@ use Rattle.schedule_play.specs.Plain.{ArePlain, plain_lines, plainly}
 use Rattle.schedule_play.specs.Stages.{Stage, first_stage, played}
 use Rattle.schedule_play.specs.declared.style.Style.TheVariants.{Queries}
 use Rattle.schedule_play.specs.Tasks.{IsSetting, Setting, Task, asking}
+use Rattle.schedule_play.specs.Traces.{asked_sizes, traces_of}
 
 -- the line of query i over n rows, by what the check says
 abbrev pub checked_line : ℕ → ℕ → Query → Result ℕ Altered → Line
@@ -78,3 +81,10 @@ abbrev pub PlainlyPlayed : Type 0
 PlainlyPlayed = (w : Widths) (task : Task) (history : List Done) → HasHistory w task history
     → AreHonest (λ actor. ⊤) history → ArePlain task.setting task.style first_stage history
     → played (opened_in history) task ≡ played (plainly task.setting) task
+
+-- Queries of equal shapes, each asked over as many rows of the same widths as the other: from the same trace on, each server has the same
+-- visits and the same lengths of messages in the end, whatever the bounds, and whatever the rows hold and the seeds are.
+abbrev pub SeenAlike : Type 0
+SeenAlike = (w : Widths) (n : ℕ) (queries others : List Query) → map shaped queries ≡ map shaped others
+    → (before after last : AllSeen) → Grew before after (traces_of (asked_sizes w n queries)) → Grew before last (traces_of (asked_sizes w n others))
+    → after ≡ last

@@ -7,4 +7,5 @@ pub mod Plays
 pub mod Ready
 pub mod Stages
 pub mod Tasks
+pub mod Traces
 pub mod Wires

@@ -1,6 +1,6 @@
 //! What the definitions say together, as functions without effect.
 
-ghost use Rattle.schedule_play.specs.Laws.{AskedHonestly, AskedInOrder, AskedPlainly, PlainlyPlayed};
+ghost use Rattle.schedule_play.specs.Laws.{AskedHonestly, AskedInOrder, AskedPlainly, PlainlyPlayed, SeenAlike};
 
 /// Where rows are appended one after another and then asked each query, no step is without a case, and each query has one
 /// line, over all rows, by what its answer opened.
@@ -26,4 +26,10 @@ pub fn asked_honestly()
 /// Steps each of whose answers opened the plain one come to what they come to plainly.
 pub fn plainly_played()
     ensures { PlainlyPlayed }
+{}
+
+/// Lists of queries of equal shapes, over as many rows of the same widths, give each server the same visits and the same lengths of
+/// messages: whatever the bounds of the queries are, what the rows hold, the seeds, and what was altered.
+pub fn seen_alike()
+    ensures { SeenAlike }
 {}

@@ -5,6 +5,7 @@ ghost use Rattle.schedule_play.specs.Leads.{Leads, Stops};
 ghost use Rattle.schedule_play.specs.Plays.{Plays, seen};
 ghost use Rattle.schedule_play.specs.Ready.{IsReady, stage_of};
 ghost use Rattle.schedule_play.specs.Tasks.{IsSetting, ask_steps, asking, scheduled};
+ghost use Rattle.schedule_play.specs.Traces.{AddsTraces, asked_sizes, sizes_from, sizes_in};
 ghost use Rattle.schedule_play.specs.declared.style.Style.TheVariants as styles;
 ghost use Rattle.schedule_play.specs.Wires.{Carried, Unaltered};
 
@@ -15,6 +16,7 @@ use report_lines::Report;
 use ring128::Memory;
 use std::alloc::Global;
 use std::thread::Threads;
+use visit_trace::Trace;
 use waldo_words::Step;
 use wire_line::Wire;
 
@@ -50,6 +52,7 @@ fn ask_queries<R: Threads + Sync, W: Wire>(
     alloc: Global,
     setting: &Setting<'_>,
     wires: &mut Vec<W>,
+    trace: &mut Trace,
 ) -> Result<(), PlayFault>
     requires legal { IsSetting setting.now.widths (seen setting.now) }
     requires queries { length setting.now.queries.now ≤ 16 }
@@ -61,6 +64,8 @@ fn ask_queries<R: Threads + Sync, W: Wire>(
         (flat_map ask_steps (range_with_len 0 (length setting.now.queries.now))) (stage_of progress.new) wires.new.items) }
     ensures stops { IfErr result (Stops W.sight setting.now.widths (seen setting.now) styles.Queries progress.old.done
         (stage_of progress.old) wires.old.items (flat_map ask_steps (range_with_len 0 (length setting.now.queries.now))) wires.new.items) }
+    ensures trace { AddsTraces (sizes_from setting.now.widths (seen setting.now) (stage_of progress.old)
+        (flat_map ask_steps (range_with_len 0 (length setting.now.queries.now)))) trace.old trace.new result }
 {
     for query in 0..setting.queries.len() {
         let steps = [
@@ -72,18 +77,20 @@ fn ask_queries<R: Threads + Sync, W: Wire>(
                 query: query as u8,
             },
         ];
-        progress.steps(rt, alloc, setting, Style::Queries, &steps, wires)?;
+        progress.steps(rt, alloc, setting, Style::Queries, &steps, wires, trace)?;
     }
     Ok(())
 }
 
 /// Appends the rows one after another and then asks each query over all of them. Everything goes over the first of the
-/// wires.
+/// wires. The trace grows by what the servers see of each query: by the trace of how many rows there are, of their widths and of the
+/// query's shape.
 pub fn ask<R: Threads + Sync, W: Wire>(
     rt: &R,
     alloc: Global,
     setting: &Setting<'_>,
     wires: &mut Vec<W>,
+    trace: &mut Trace,
 ) -> Result<Played, PlayFault>
     requires legal { IsSetting setting.now.widths (seen setting.now) }
     requires queries { length setting.now.queries.now ≤ 16 }
@@ -93,10 +100,12 @@ pub fn ask<R: Threads + Sync, W: Wire>(
     ensures wires { length wires.new.items ≡ length wires.old.items }
     ensures plays { Plays setting.now.widths (asking (seen setting.now)) (Carried W.sight wires.old.items wires.new.items)
         (Unaltered W.sight wires.old.items wires.new.items) result }
+    ensures trace { AddsTraces (asked_sizes setting.now.widths (length setting.now.rows.now) setting.now.queries.now)
+        trace.old trace.new result }
 {
     let mut progress = Progress::new(rt, alloc, setting)?;
     progress.append_rows(rt, alloc, setting)?;
-    ask_queries(&mut progress, rt, alloc, setting, wires)?;
+    ask_queries(&mut progress, rt, alloc, setting, wires, trace)?;
     Ok(progress.into_played())
 }
 
@@ -117,6 +126,7 @@ pub fn ask_over<R: Threads + Sync, W: Wire + Drop>(
     alloc: Global,
     setting: &Setting<'_>,
     wire: W,
+    trace: &mut Trace,
 ) -> (Result<Played, PlayFault>, W)
     requires legal { IsSetting setting.now.widths (seen setting.now) }
     requires queries { length setting.now.queries.now ≤ 16 }
@@ -124,22 +134,26 @@ pub fn ask_over<R: Threads + Sync, W: Wire + Drop>(
     requires few { setting.now.workers ≤ 16 }
     ensures plays { Plays setting.now.widths (asking (seen setting.now)) (Carried W.sight (wire ∷ []) (result.1 ∷ []))
         (Unaltered W.sight (wire ∷ []) (result.1 ∷ [])) result.0 }
+    ensures trace { AddsTraces (asked_sizes setting.now.widths (length setting.now.rows.now) setting.now.queries.now)
+        trace.old trace.new result.0 }
 {
     let Ok(mut wires) = Vec::with_capacity(alloc, 1) else {
         return (Err(PlayFault::Memory), wire);
     };
     wires.push_reserved(wire);
-    let played = ask(rt, alloc, setting, &mut wires);
+    let played = ask(rt, alloc, setting, &mut wires, trace);
     (played, only_one(wires))
 }
 
-/// Does the steps of a schedule one after another. Actor a's answers go over wire a of 16.
+/// Does the steps of a schedule one after another. Actor a's answers go over wire a of 16. The trace grows by what the servers see of
+/// each answer: by the trace of how many rows its actor agreed on, of their widths and of the query's shape.
 pub fn replay<R: Threads + Sync, W: Wire>(
     rt: &R,
     alloc: Global,
     setting: &Setting<'_>,
     schedule: &[Step],
     wires: &mut Vec<W>,
+    trace: &mut Trace,
 ) -> Result<Played, PlayFault>
     requires legal { IsSetting setting.now.widths (seen setting.now) }
     requires short { length schedule.now ≤ 4096 }
@@ -149,8 +163,9 @@ pub fn replay<R: Threads + Sync, W: Wire>(
     ensures wires { length wires.new.items ≡ 16 }
     ensures plays { Plays setting.now.widths (scheduled (seen setting.now) schedule.now)
         (Carried W.sight wires.old.items wires.new.items) (Unaltered W.sight wires.old.items wires.new.items) result }
+    ensures trace { AddsTraces (sizes_in setting.now.widths (scheduled (seen setting.now) schedule.now)) trace.old trace.new result }
 {
     let mut progress = Progress::new(rt, alloc, setting)?;
-    progress.steps(rt, alloc, setting, Style::Rounds, schedule, wires)?;
+    progress.steps(rt, alloc, setting, Style::Rounds, schedule, wires, trace)?;
     Ok(progress.into_played())
 }

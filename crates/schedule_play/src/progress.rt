@@ -6,6 +6,7 @@ ghost use Rattle.schedule_play.specs.Plays.{seen};
 ghost use Rattle.schedule_play.specs.Stages.{HaveWires, actor_in, event_of, first_stage, is_asked, lines_of, with_reply};
 ghost use Rattle.waldo_core.specs.Step.{is_altered};
 ghost use Rattle.schedule_play.specs.Tasks.{IsSetting};
+ghost use Rattle.schedule_play.specs.Traces.{AddsTraces, sizes_from};
 
 use crate::entries::seeded;
 use crate::play::{PlayFault, Played};
@@ -173,7 +174,8 @@ impl Progress {
         Ok(())
     }
 
-    /// Does a step over its actor's wire. Out of memory, the first messages of an answer may have been carried.
+    /// Does a step over its actor's wire, and notes in the trace what the servers see of it. Out of memory, the first messages of an
+    /// answer may have been carried, and a prefix of what is seen noted.
     fn step<R: Threads + Sync, W: Wire>(
         &mut self,
         rt: &R,
@@ -182,6 +184,7 @@ impl Progress {
         style: Style,
         step: Step,
         wires: &mut Vec<W>,
+        trace: &mut Trace,
     ) -> Result<(), PlayFault>
         requires legal { IsSetting setting.now.widths (seen setting.now) }
         requires ready { IsReady setting.now.widths (seen setting.now) self.old }
@@ -194,6 +197,7 @@ impl Progress {
             (step ∷ []) (stage_of self.new) wires.new.items) }
         ensures stops { IfErr result (Stops W.sight setting.now.widths (seen setting.now) style self.old.done
             (stage_of self.old) wires.old.items (step ∷ []) wires.new.items) }
+        ensures trace { AddsTraces (sizes_from setting.now.widths (seen setting.now) (stage_of self.old) (step ∷ [])) trace.old trace.new result }
     {
         let refused = PlayFault::NotAllowed { index: self.done };
         let actor = actor_in(step);
@@ -204,8 +208,7 @@ impl Progress {
             return Err(refused);
         };
         let wire = &mut wires[usize::from(actor)];
-        let mut trace = Trace::new(alloc); // nobody prints it
-        match self.machine.step(rt, alloc, event, wire, &mut trace) {
+        match self.machine.step(rt, alloc, event, wire, trace) {
             Ok(reply) => {
                 self.count(setting, style, step, reply)?;
                 Ok(())
@@ -224,6 +227,7 @@ impl Progress {
         style: Style,
         steps: &[Step],
         wires: &mut Vec<W>,
+        trace: &mut Trace,
     ) -> Result<(), PlayFault>
         requires legal { IsSetting setting.now.widths (seen setting.now) }
         requires ready { IsReady setting.now.widths (seen setting.now) self.old }
@@ -236,9 +240,10 @@ impl Progress {
             steps.now (stage_of self.new) wires.new.items) }
         ensures stops { IfErr result (Stops W.sight setting.now.widths (seen setting.now) style self.old.done
             (stage_of self.old) wires.old.items steps.now wires.new.items) }
+        ensures trace { AddsTraces (sizes_from setting.now.widths (seen setting.now) (stage_of self.old) steps.now) trace.old trace.new result }
     {
         for step in steps {
-            self.step(rt, alloc, setting, style, *step, wires)?;
+            self.step(rt, alloc, setting, style, *step, wires, trace)?;
         }
         Ok(())
     }

@@ -1,3 +1,4 @@
+pub mod Grown
 pub mod Headline
 pub mod Made
 pub mod Races

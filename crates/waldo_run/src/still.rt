@@ -4,6 +4,8 @@ ghost use Rattle.report_lines.specs.Line.{text_of};
 ghost use Rattle.schedule_play.specs.History.{Done};
 ghost use Rattle.table_schema.specs.declared.rows.Row.{Row};
 ghost use Rattle.wire_line.specs.Lists.{SomeRose};
+ghost use Rattle.visit_trace.specs.Seen.{GrewBy};
+ghost use Rattle.waldo_run.specs.Grown.{SeesIn, Traces, TracesOf};
 ghost use Rattle.waldo_run.specs.Headline.{AsksOver, plain_answers};
 ghost use Rattle.waldo_run.specs.Run.{Answers, Breaks, HasSchedule, IsUnchanged, Puts, ReadsNothing, Refuses, Replies, Runs, plain_reply};
 ghost use Rattle.waldo_run.specs.Tampered.{AltersNothing, CarriedBy, UnalteredBy};
@@ -25,6 +27,7 @@ use ring128::Memory;
 use row_source::{Source, read_all, read_rows};
 use std::alloc::Global;
 use std::thread::Threads;
+use visit_trace::Trace;
 use waldo_words::{Command, Common};
 use wire_line::Wire;
 
@@ -49,6 +52,7 @@ fn answer_bytes<R: Threads + Sync, W: Wire>(
     command: &Command,
     bytes: Vec<u8>,
     wires: &mut Vec<W>,
+    trace: &mut Trace,
 ) -> Result<Reply, Memory>
     requires legal { IsLegal command.now }
     requires built { IsBuilt command.now }
@@ -57,13 +61,14 @@ fn answer_bytes<R: Threads + Sync, W: Wire>(
     ensures answers { Answers command.now (rows_in (common_in command.now) bytes.items)
         (CarriedBy W.sight (Ok command.now) wires.old.items wires.new.items)
         (UnalteredBy W.sight (Ok command.now) wires.old.items wires.new.items) result }
+    ensures trace { SeesIn command.now (λ part. GrewBy trace.old trace.new part result) (rows_in (common_in command.now) bytes.items) }
 {
     let common = common_of(command);
     let widths = common.schema.widths();
     let rows = read_rows(alloc, &common.schema, common.capacity, &bytes);
     drop(bytes); // the rows stand for them
     match rows {
-        Ok(rows) => answer_rows(rt, alloc, command, &widths, &rows, wires),
+        Ok(rows) => answer_rows(rt, alloc, command, &widths, &rows, wires, trace),
         Err(fault) => refused_rows(alloc, fault),
     }
 }
@@ -75,6 +80,7 @@ fn answer_input<R: Threads + Sync, S: Source, W: Wire>(
     command: &Command,
     source: &mut S,
     wires: &mut Vec<W>,
+    trace: &mut Trace,
 ) -> Result<Reply, Memory>
     requires legal { IsLegal command.now }
     requires built { IsBuilt command.now }
@@ -86,9 +92,10 @@ fn answer_input<R: Threads + Sync, S: Source, W: Wire>(
         (UnalteredBy W.sight (Ok command.now) wires.old.items wires.new.items) reply) }
     ensures memory { OnErr result (Breaks (Ok command.now) (change S.sight source.old source.new)
         (CarriedBy W.sight (Ok command.now) wires.old.items wires.new.items)) }
+    ensures trace { TracesOf (Ok command.now) (change S.sight source.old source.new) trace.old trace.new result }
 {
     match read_all(alloc, source) {
-        Ok(bytes) => answer_bytes(rt, alloc, command, bytes, wires),
+        Ok(bytes) => answer_bytes(rt, alloc, command, bytes, wires, trace),
         Err(fault) => unread_input(alloc, fault),
     }
 }
@@ -101,6 +108,7 @@ fn answer_made<R: Threads + Sync, W: Wire>(
     number: u32,
     count: u32,
     wires: &mut Vec<W>,
+    trace: &mut Trace,
 ) -> Result<Reply, Memory>
     requires legal { IsLegal command.now }
     requires made { command.now ≡ commands.Make (common_in command.now) number count }
@@ -109,10 +117,11 @@ fn answer_made<R: Threads + Sync, W: Wire>(
     ensures answers { Answers command.now (Ok (rows_made command.now))
         (CarriedBy W.sight (Ok command.now) wires.old.items wires.new.items)
         (UnalteredBy W.sight (Ok command.now) wires.old.items wires.new.items) result }
+    ensures trace { SeesIn command.now (λ part. GrewBy trace.old trace.new part result) (Ok (rows_made command.now)) }
 {
     let widths = common_of(command).schema.widths();
     let rows = made_rows(alloc, &widths, number, count)?;
-    answer_rows(rt, alloc, command, &widths, &rows, wires)
+    answer_rows(rt, alloc, command, &widths, &rows, wires, trace)
 }
 
 // The reply of a command.
@@ -122,6 +131,7 @@ fn answer<R: Threads + Sync, S: Source, W: Wire>(
     command: &Command,
     source: &mut S,
     wires: &mut Vec<W>,
+    trace: &mut Trace,
 ) -> Result<Reply, Memory>
     requires legal { IsLegal command.now }
     requires built { IsBuilt command.now }
@@ -133,12 +143,13 @@ fn answer<R: Threads + Sync, S: Source, W: Wire>(
     ensures memory { OnErr result (Breaks (Ok command.now) (change S.sight source.old source.new)
         (CarriedBy W.sight (Ok command.now) wires.old.items wires.new.items)) }
     ensures unread { ReadsNothing (Ok command.now) → IsUnchanged (change S.sight source.old source.new) }
+    ensures trace { TracesOf (Ok command.now) (change S.sight source.old source.new) trace.old trace.new result }
 {
     match command {
         Command::Make { number, rows, .. } => answer_made(
-            rt, alloc, command, *number, *rows, wires,
+            rt, alloc, command, *number, *rows, wires, trace,
         ),
-        _ => answer_input(rt, alloc, command, source, wires),
+        _ => answer_input(rt, alloc, command, source, wires, trace),
     }
 }
 
@@ -149,6 +160,7 @@ fn reply_in<R: Threads + Sync, S: Source, W: Wire>(
     words: &[String],
     source: &mut S,
     wires: &mut Vec<W>,
+    trace: &mut Trace,
 ) -> Result<Reply, Memory>
     requires wires { length wires.old.items ≡ 16 }
     ensures wires { length wires.new.items ≡ 16 }
@@ -158,15 +170,17 @@ fn reply_in<R: Threads + Sync, S: Source, W: Wire>(
     ensures memory { OnErr result (Breaks (command_in (map string_bytes words.now)) (change S.sight source.old source.new)
         (CarriedBy W.sight (command_in (map string_bytes words.now)) wires.old.items wires.new.items)) }
     ensures unread { ReadsNothing (command_in (map string_bytes words.now)) → IsUnchanged (change S.sight source.old source.new) }
+    ensures trace { TracesOf (command_in (map string_bytes words.now)) (change S.sight source.old source.new) trace.old trace.new result }
 {
     match read_command(alloc, words) {
-        Ok(command) => answer(rt, alloc, &command, source, wires),
+        Ok(command) => answer(rt, alloc, &command, source, wires, trace),
         Err(fault) => refused_words(alloc, fault),
     }
 }
 
 /// Runs the program on these words, this source, this sink and 16 wires. The messages of an answer go over its actor's wire: those of
-/// `ask` and `make` over the first one. At the return the list has the same 16 wires, each in its place.
+/// `ask` and `make` over the first one. At the return the list has the same 16 wires, each in its place. The trace grows by what the
+/// servers see of each query.
 pub fn run_still<R: Threads + Sync, S: Source, K: Sink, W: Wire>(
     rt: &R,
     alloc: Global,
@@ -174,6 +188,7 @@ pub fn run_still<R: Threads + Sync, S: Source, K: Sink, W: Wire>(
     source: &mut S,
     sink: &mut K,
     wires: &mut Vec<W>,
+    trace: &mut Trace,
 ) -> u8
     requires wires { length wires.old.items ≡ 16 }
     ensures wires { length wires.new.items ≡ 16 }
@@ -211,11 +226,14 @@ pub fn run_still<R: Threads + Sync, S: Source, K: Sink, W: Wire>(
     // A message was altered, by a wire or by the command itself.
     ensures altered { result ≡ 7 → ¬ AltersNothing (command_in (map string_bytes words.now))
         ⊎ SomeRose W.sight wires.old.items wires.new.items }
+    // The trace grew by the traces of the queries that were answered, one after another: each follows from how many rows it was asked over,
+    // from their widths and from its shape. Of refused words or rows the servers see nothing. Out of memory it grew by a prefix of these.
+    ensures trace { Traces (command_in (map string_bytes words.now)) (change S.sight source.old source.new) trace.old trace.new result }
 {
     schedule_play::laws::asked_in_order();
     schedule_play::laws::asked_plainly();
     schedule_play::laws::plainly_played();
-    match reply_in(rt, alloc, words, source, wires) {
+    match reply_in(rt, alloc, words, source, wires, trace) {
         Err(_) => 6,
         Ok(reply) => finish(alloc, &reply, sink),
     }

@@ -2,6 +2,7 @@
 ghost use Rattle.std.specs.Prelude.{◌≡◌, ◌≤◌, IfOk, length, map};
 ghost use Rattle.schedule_play.specs.Plays.{Plays, seen};
 ghost use Rattle.schedule_play.specs.Tasks.{IsSetting, asking};
+ghost use Rattle.schedule_play.specs.Traces.{AddsTraces, asked_sizes};
 ghost use Rattle.waldo_run.specs.Tampered.{WireShifted, first_key, shift_by, shifts_over};
 
 use prg_chacha::{Seed, derive};
@@ -10,6 +11,7 @@ use ring128::{Memory, mul};
 use schedule_play::{PlayFault, Played, Setting, ask_over};
 use std::alloc::Global;
 use std::thread::Threads;
+use visit_trace::Trace;
 use waldo_words::{Amount, ShiftWord};
 use wire_line::{LentWire, Shift, ShiftWire, Shifts, Wire};
 
@@ -57,13 +59,16 @@ pub(crate) fn tamper<R: Threads + Sync, W: Wire>(
     setting: &Setting<'_>,
     words: &[ShiftWord],
     wire: &mut W,
+    trace: &mut Trace,
 ) -> Result<Played, PlayFault>
     requires legal { IsSetting setting.now.widths (seen setting.now) }
     requires queries { length setting.now.queries.now ≤ 16 }
     requires some { 1 ≤ setting.now.workers }
     requires few { setting.now.workers ≤ 16 }
-    ensures { Plays setting.now.widths (asking (seen setting.now)) (λ history.
+    ensures plays { Plays setting.now.widths (asking (seen setting.now)) (λ history.
         WireShifted W.sight (shifts_over (seen setting.now) words.now) history wire.old wire.new) (λ actor. ⊥) result }
+    ensures trace { AddsTraces (asked_sizes setting.now.widths (length setting.now.rows.now) setting.now.queries.now)
+        trace.old trace.new result }
 {
     let seed = derive(&setting.master, 2, 0, 0);
     let key = first_key(setting.queries, &seed);
@@ -71,7 +76,7 @@ pub(crate) fn tamper<R: Threads + Sync, W: Wire>(
         return Err(PlayFault::Memory);
     };
     let over = ShiftWire::over(alloc, LentWire::over(wire), shifts);
-    let (played, over) = ask_over(rt, alloc, setting, over);
+    let (played, over) = ask_over(rt, alloc, setting, over, trace);
     let _last = over.into_lent();
     played
 }

@@ -3,6 +3,9 @@ ghost use Rattle.std.specs.Prelude.{◌≡◌, ◌≢◌, ◌≤◌, All, IfOk, 
 ghost use Rattle.schedule_play.specs.History.{Done};
 ghost use Rattle.schedule_play.specs.Plays.{Plays, seen};
 ghost use Rattle.schedule_play.specs.Tasks.{IsSetting};
+ghost use Rattle.schedule_play.specs.Traces.{AddsTraces, traces_of};
+ghost use Rattle.visit_trace.specs.Seen.{GrewBy};
+ghost use Rattle.waldo_run.specs.Grown.{sizes_by};
 ghost use Rattle.waldo_run.specs.Tampered.{CarriedBy, UnalteredBy};
 ghost use Rattle.table_schema.specs.Widths.{Holds};
 ghost use Rattle.waldo_run.specs.Replies.{IsReplyOf, checked_answer, reported, rows_reply};
@@ -21,6 +24,7 @@ use schedule_play::{PlayFault, Played, Setting, ask, replay};
 use std::alloc::Global;
 use std::thread::Threads;
 use table_schema::{Row, Widths};
+use visit_trace::Trace;
 use waldo_words::{Command, Common};
 use wire_line::Wire;
 
@@ -58,6 +62,7 @@ fn play<R: Threads + Sync, W: Wire>(
     widths: &Widths,
     rows: &[Row],
     wires: &mut Vec<W>,
+    trace: &mut Trace,
 ) -> Result<Played, PlayFault>
     requires legal { IsLegal command.now }
     requires built { IsBuilt command.now }
@@ -67,11 +72,14 @@ fn play<R: Threads + Sync, W: Wire>(
     ensures plays { Plays widths.now (task_over command.now rows.now)
         (CarriedBy W.sight (Ok command.now) wires.old.items wires.new.items)
         (UnalteredBy W.sight (Ok command.now) wires.old.items wires.new.items) result }
+    ensures trace { AddsTraces (sizes_by command.now widths.now rows.now) trace.old trace.new result }
 {
     match command {
-        Command::Ask(common) => ask(rt, alloc, &setting(common, widths, rows), wires),
-        Command::Make { common, .. } => ask(rt, alloc, &setting(common, widths, rows), wires),
-        Command::Trace(common) => ask(rt, alloc, &setting(common, widths, rows), wires),
+        Command::Ask(common) => ask(rt, alloc, &setting(common, widths, rows), wires, trace),
+        Command::Make { common, .. } => {
+            ask(rt, alloc, &setting(common, widths, rows), wires, trace)
+        }
+        Command::Trace(common) => ask(rt, alloc, &setting(common, widths, rows), wires, trace),
         Command::Replay { common, schedule } => {
             replay(
                 rt,
@@ -79,6 +87,7 @@ fn play<R: Threads + Sync, W: Wire>(
                 &setting(common, widths, rows),
                 schedule.as_slice(),
                 wires,
+                trace,
             )
         }
         Command::Tamper { common, shifts } => {
@@ -88,6 +97,7 @@ fn play<R: Threads + Sync, W: Wire>(
                 &setting(common, widths, rows),
                 shifts.as_slice(),
                 &mut wires[0],
+                trace,
             )
         }
         Command::Race { .. } => unreachable!(),
@@ -122,8 +132,8 @@ fn reported(
     }
 }
 
-/// The reply of a command to its rows: that of its steps, whose answers go over the wires. The only error is out of memory; the
-/// first messages of the steps may then have been carried.
+/// The reply of a command to its rows: that of its steps, whose answers go over the wires. The trace grows by what the servers see of
+/// them. The only error is out of memory; the first messages of the steps may then have been carried.
 pub(crate) fn answer_rows<R: Threads + Sync, W: Wire>(
     rt: &R,
     alloc: Global,
@@ -131,6 +141,7 @@ pub(crate) fn answer_rows<R: Threads + Sync, W: Wire>(
     widths: &Widths,
     rows: &[Row],
     wires: &mut Vec<W>,
+    trace: &mut Trace,
 ) -> Result<Reply, Memory>
     requires legal { IsLegal command.now }
     requires built { IsBuilt command.now }
@@ -145,8 +156,9 @@ pub(crate) fn answer_rows<R: Threads + Sync, W: Wire>(
         AskedOver (UnalteredBy W.sight (Ok command.now) wires.old.items wires.new.items) command.now history rows.now
         × (reply ≡ rows_reply (checked_answer history) command.now rows.now)
         × (((actor : ℕ) → UnalteredBy W.sight (Ok command.now) wires.old.items wires.new.items actor) → reply.status ≢ 7)) }
+    ensures trace { GrewBy trace.old trace.new (traces_of (sizes_by command.now widths.now rows.now)) result }
 {
-    let played = play(rt, alloc, command, widths, rows, wires);
+    let played = play(rt, alloc, command, widths, rows, wires, trace);
     let reply = reply_of(alloc, played)?;
     reported(alloc, command, widths, rows, reply)
 }

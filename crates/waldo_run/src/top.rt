@@ -2,6 +2,7 @@
 ghost use Rattle.std.specs.Prelude.{◌≡◌, ◌≢◌, ◌⊎◌, true, false, List, map, string_bytes, Ok, IfSome, IsErr, length};
 ghost use Rattle.table_schema.specs.declared.rows.Row.{Row};
 ghost use Rattle.wire_line.specs.Lists.{SomeRose};
+ghost use Rattle.waldo_run.specs.Grown.{Traces};
 ghost use Rattle.waldo_run.specs.Headline.{AsksOver, plain_answers};
 ghost use Rattle.waldo_run.specs.Races.{Races, begin_race, command_at};
 ghost use Rattle.waldo_run.specs.Run.{Breaks, HasSchedule, IsUnchanged, Puts, ReadsNothing, Refuses, Runs, plain_reply};
@@ -20,6 +21,7 @@ use row_source::Source;
 use std::alloc::Global;
 use std::sync::Wait;
 use std::thread::Threads;
+use visit_trace::Trace;
 use wire_line::Wire;
 
 /// Runs the program on these words, this source, this sink and 16 wires. For every command but `race` it is [`run_still`]. In a race
@@ -32,6 +34,7 @@ pub fn run<R: Threads + Wait + Sync, S: Source, K: Sink, W: Wire + Send, G: Gate
     source: &mut S,
     sink: &mut K,
     wires: &mut Vec<W>,
+    trace: &mut Trace,
     gate: &G,
 ) -> u8
     requires wires { length wires.old.items ≡ 16 }
@@ -72,10 +75,13 @@ pub fn run<R: Threads + Wait + Sync, S: Source, K: Sink, W: Wire + Send, G: Gate
     ensures input { result ≡ 5 → IfSome (S.sight.bytes source.old) (Refuses (command_at (map string_bytes words.now))) }
     ensures altered { result ≡ 7 → ¬ AltersNothing (command_at (map string_bytes words.now))
         ⊎ SomeRose W.sight wires.old.items wires.new.items }
+    // Every command but `race`: the trace grew as `run_still` says.
+    ensures trace { begin_race (map string_bytes words.now) ≡ false
+        → Traces (command_at (map string_bytes words.now)) (change S.sight source.old source.new) trace.old trace.new result }
 {
     if begin_race(words) {
         run_race(rt, alloc, words, source, sink, wires, gate)
     } else {
-        run_still(rt, alloc, words, source, sink, wires)
+        run_still(rt, alloc, words, source, sink, wires, trace)
     }
 }

@@ -1,12 +1,18 @@
-use Rattle.std.proofs.Common.{◌≡◌, ℕ, ◌+◌, refl, subst, length, List, arith}
+use Rattle.std.proofs.Common.{◌≡◌, ◌∙◌, ℕ, ◌+◌, refl, ap, subst, length, List, arith}
 use Rattle.std.specs.List.{flat_map, range_with_len}
 use Rattle.std.proofs.lemmas.Result.{err_from_is_err_and}
+use Rattle.visit_trace.specs.Growing.{prefix_none}
+use Rattle.visit_trace.specs.Seen.{Grew}
+use Rattle.visit_trace.specs.declared.sizes.Sizes.{Sizes}
 use Rattle.waldo_words.specs.declared.schedule.Step.{Step}
 use Rattle.schedule_play.specs.Leads.{Stops}
 use Rattle.schedule_play.specs.Plays.{seen}
 use Rattle.schedule_play.specs.Ready.{stage_of}
+use Rattle.schedule_play.specs.Stages.{Stage}
 use Rattle.schedule_play.specs.Tasks.{append_steps, ask_steps, asking}
+use Rattle.schedule_play.specs.Traces.{AddsUpTo, asked_sizes, sizes_from, traces_of}
 use Rattle.schedule_play.specs.declared.style.Style.TheVariants.{Queries}
+use Rattle.schedule_play.proofs.Asking.{asked_over}
 use Rattle.schedule_play.proofs.Loops.{length-parts}
 use Rattle.schedule_play.proofs.Outcomes.{leads_both, leads_plays, leads_stops, nothing_plays, stops_plays}
 use Rattle.schedule_play.proofs.Unasked.{rows_lead}
@@ -64,3 +70,33 @@ returns-clause-plays g c =
     (rows_lead g.W.Wire.sight g.met.W.Wire.none_passes w s first mid vs c.in_ok-progress.ensures.stage c.in_ok-append_rows.ensures.stage)
     c.in_ok-ask_queries.ensures.leads)
     c.into_played.ensures.report c.into_played.ensures.altered
+
+pub returns-in_err-progress-clause-trace : goal.returns-in_err-progress-clause-trace
+returns-in_err-progress-clause-trace g c =
+    let p = err_from_is_err_and c.from_residual.result c.from_residual.ensures.1 in
+    let s = seen c.args.setting.now in
+    rw (p.1, p.2) (prefix_none c.args.trace.now (traces_of (asked_sizes c.args.setting.now.widths (length s.rows) s.queries)))
+
+pub returns-in_err-append_rows-clause-trace : goal.returns-in_err-append_rows-clause-trace
+returns-in_err-append_rows-clause-trace g c =
+    let p = err_from_is_err_and c.from_residual-in_err-append_rows.result c.from_residual-in_err-append_rows.ensures.1 in
+    let s = seen c.args.setting.now in
+    rw (p.1, p.2) (prefix_none c.args.trace.now (traces_of (asked_sizes c.args.setting.now.widths (length s.rows) s.queries)))
+
+pub returns-in_err-ask_queries-clause-trace : goal.returns-in_err-ask_queries-clause-trace
+returns-in_err-ask_queries-clause-trace g c =
+    let p = err_from_is_err_and c.from_residual-in_err-ask_queries.result c.from_residual-in_err-ask_queries.ensures.1 in
+    let s = seen c.args.setting.now in
+    let w = c.args.setting.now.widths in
+    rw (p.1, p.2)
+    (subst (λ (zs : List Sizes). AddsUpTo zs c.args.trace.now c.ask_queries.new.trace c.in_err-ask_queries.field-0.0)
+    (ap (λ (stage : Stage). sizes_from w s stage (asked (length s.queries))) c.in_ok-append_rows.ensures.stage ∙ asked_over w s)
+    c.in_err-ask_queries.ensures.trace)
+
+pub returns-clause-trace : goal.returns-clause-trace
+returns-clause-trace g c =
+    let s = seen c.args.setting.now in
+    let w = c.args.setting.now.widths in
+    subst (λ (zs : List Sizes). Grew c.args.trace.now c.ask_queries.new.trace (traces_of zs))
+    (ap (λ (stage : Stage). sizes_from w s stage (asked (length s.queries))) c.in_ok-append_rows.ensures.stage ∙ asked_over w s)
+    c.in_ok-ask_queries.ensures.trace
