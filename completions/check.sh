@@ -24,6 +24,10 @@ while IFS='|' read -r line wanted; do
   [ -z "$line" ] || differs "$line" "$wanted" "$(offered "$line")"
 done <<'LINES'
 ./waldo s|schema
+./waldo pl|plot
+./waldo help p|plot
+./waldo plot exa|
+./waldo plot -|--svg
 ./waldo rep|replay
 ./waldo r|race,replay
 ./waldo t|tamper,trace
@@ -77,7 +81,7 @@ LINES
 
 # The guide's table of options, for each command of its summary.
 commands=$(awk '$1 == "waldo" && $3 == "SCHEMA" { print $2 } /^## ask/ { exit }' docs/guide.md)
-differs commands "$(printf '%s\n' "$commands" schema help | LC_ALL=C sort | paste -sd, -)" "$(offered './waldo ')"
+differs commands "$(printf '%s\n' "$commands" schema plot help | LC_ALL=C sort | paste -sd, -)" "$(offered './waldo ')"
 for command in $commands; do
   options=$(grep '^| `--' docs/guide.md | awk -F ' *[|] *' -v c="\`$command\`" \
     '$3 == "all" || index($3, c) { gsub(/`/, "", $2); print $2 }' | LC_ALL=C sort)

@@ -86,13 +86,19 @@ _waldo() {
   if [[ $before == *'<' || $before == *'>' || $current == '<'* ]]; then
     compopt -o default 2>/dev/null
   elif ((last == 1)); then
-    mapfile -t COMPREPLY < <(compgen -W "$(_waldo_commands) schema help" -- "$current")
+    mapfile -t COMPREPLY < <(compgen -W "$(_waldo_commands) schema plot help" -- "$current")
   elif [[ ${words[1]} == help ]]; then
     ((last == 2)) && mapfile -t COMPREPLY < <(
-      compgen -W "$(_waldo_commands) schema commands schemas queries rows schedules messages" -- "$current"
+      compgen -W "$(_waldo_commands) schema plot commands schemas queries rows schedules messages" -- "$current"
     )
   elif [[ ${words[1]} == schema ]]; then
     compopt -o default 2>/dev/null
+  elif [[ ${words[1]} == plot ]]; then
+    if [[ $current == -* ]]; then
+      mapfile -t COMPREPLY < <(compgen -W --svg -- "$current")
+    else
+      compopt -o default 2>/dev/null
+    fi
   elif ((last == 2)); then
     :
   elif [[ $before == --query || $current == --query=* ]]; then

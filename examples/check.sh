@@ -57,7 +57,7 @@ check_launcher() {
 # The commands of help's topics and of the man page, one a line, as they are written in the pages.
 shown_commands() {
   local topic
-  for topic in $(./waldo help | awk '$1 == "waldo" && $3 == "SCHEMA" { print $2 }') schema commands schemas queries rows schedules messages; do
+  for topic in $(./waldo help | awk '$1 == "waldo" && $3 == "SCHEMA" { print $2 }') schema plot commands schemas queries rows schedules messages; do
     ./waldo help "$topic" | sed -n 's/^ *\(\.\/waldo [^h].*\)/\1/p'
   done
   sed -n '/^\.SH EXAMPLES/,/^\.SH SEE/p' docs/waldo.1 | sed -e ':more' -e '/\\e$/{N;s/\\e\n */ /;b more' -e '}' |

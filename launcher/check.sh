@@ -399,7 +399,7 @@ check_no_build() {
   local words
   rm -rf -- "$tree/built" "$room/proved"
   for words in help -h --help --version "help commands" "help schemas" "help queries" "help rows" "help schedules" "help messages" \
-    "help schema" "ask --help" "replay -h" "race --help" "race help" "make help" "help ask" "help race" "help trace"; do
+    "help schema" "help plot" "ask --help" "replay -h" "race --help" "race help" "make help" "help ask" "help race" "help trace"; do
     call $words
     is "$words has text, status 0 and no line" "0::yes" "$status:$err:$([ ${#out} -gt 40 ] && echo yes)"
   done
@@ -461,8 +461,153 @@ check_schema() {
   is "a file that isn't there" 3 "$status"
 }
 
+# Four buckets of a sum, as groups prints them: 0, 20, 0 and 15.
+totals() { printf 'group 0 bucket %s rows 3 sum %s\n' 0 0 1 20 2 0 3 15; }
+
+check_plot() {
+  local folder="$room/pic tures" here="$room/a 'text with
+a line feed" wanted
+  mkdir -p "$folder"
+  totals >"$here"
+  wanted='query 0: sum by bucket, over 3 rows
+bucket 0 | 0
+bucket 1 |################################################## 20
+bucket 2 | 0
+bucket 3 |###################################### 15
+         +------------------------+------------------------+
+         0                       10                       20'
+  call plot "$here"
+  is "bars of a file under an odd name" "$wanted:0:" "${out%$'\n'}:$status:$err"
+  is "bars of a pipe" "$wanted" "$(totals | "$tree/waldo" plot)"
+  is "bars of a named pipe" "$wanted" "$("$tree/waldo" plot <(totals) </dev/null)"
+  rm -rf -- "$tree/built" "$room/proved"
+  call plot "$here" --svg "$folder/-a 'b.svg"
+  is "with a picture, the same bars" "$wanted:0:" "${out%$'\n'}:$status:$err"
+  is "neither needs a build" no "$(exists "$room/proved")"
+  place
+  is "the picture is whole" "</svg>" "$(tail -n 1 "$folder/-a 'b.svg")"
+  has "it has a title" ">query 0: sum by bucket, over 3 rows</text>" "$(cat "$folder/-a 'b.svg")"
+  has "a scale" ">15</text>" "$(cat "$folder/-a 'b.svg")"
+  has "and each total" "<title>bucket 3: 15</title>" "$(cat "$folder/-a 'b.svg")"
+  is "nothing is left beside it" "-a 'b.svg" "$(ls -A "$folder")"
+  is "others may read it as the umask says" 640 "$(cd "$folder" && umask 027 && "$tree/waldo" plot "$here" --svg=-x.svg >/dev/null </dev/null && stat -c %a ./-x.svg)"
+  check_plot_totals
+  check_plot_lines
+  check_plot_words
+  check_plot_writes
+}
+
+check_plot_totals() {
+  local most=18446744073709551615
+  out=$(printf 'group 0 bucket 0 rows 65536 sum %s\ngroup 0 bucket 1 rows 65536 sum 1\n' $most | "$tree/waldo" plot)
+  has "the greatest total, digit by digit" " $most" "$out"
+  has "its scale" "10000000000000000000     20000000000000000000" "$out"
+  has "a total that is too small for its bar" "bucket 1 |. 1" "$out"
+  is "no rows" "2 1" "$(printf 'group 0 bucket %s rows 0 count 0\n' 0 1 | "$tree/waldo" plot | grep -c '| 0$') $(
+    printf 'group 0 bucket %s rows 1 count 0\n' 0 1 | "$tree/waldo" plot | grep -c 'over 1 row$')"
+  is "256 buckets" "256 64" "$(for ((i = 0; i < 256; i++)); do echo "group 0 bucket $i rows 9 count 9"; done |
+    "$tree/waldo" plot --svg "$room/wide.svg" | grep -c '#') $(grep -o '<rect' "$room/wide.svg" | wc -l | awk '{ print int($1 / 4) }')"
+  out=$(printf 'group 0 bucket 0 altered total 16 weighted 7\ngroup 0 bucket 1 rows 3 sum 4\n' |
+    "$tree/waldo" plot --svg "$room/refused.svg" 2>"$room/err"; echo "$?")
+  is "a refused bucket has status 7" 7 "${out##*$'\n'}"
+  has "and is said to be refused" "bucket 0 | refused: the check found it altered" "$out"
+  has "the others are drawn" "bucket 1 |######################################## 4" "$out"
+  is "its line" 1 "$(wc -l <"$room/err")"
+  has "in the picture too" "bucket 0: refused" "$(cat "$room/refused.svg")"
+}
+
+# A wrong text has status 5 and one line that names the place: `the text, as printf reads it|part of the line`.
+check_plot_lines() {
+  local text line
+  while IFS='|' read -r text line; do
+    out=$(printf "$text" | "$tree/waldo" plot --svg "$room/none.svg" 2>"$room/err"; echo "$?")
+    is "plot of $text" "5 1" "$out $(wc -l <"$room/err")"
+    has "its line" "$line" "$(cat "$room/err")"
+  done <<'LINES'
+|there is no line
+\n|line 1 is no line that groups prints
+waldo: bad word 3\n|groups refused its words or its rows: 'waldo: bad word 3'
+ask 0 rows 3 sum 35\n|line 1 is no line that groups prints: 'ask 0 rows 3 sum 35'
+group 0 bucket 0 rows 3 sum 1\ngroup 0 bucket 1 rows 3 sum 1|the last line has no end
+group 0 bucket 0 rows 3 sum 1\n|query 0 ends with bucket 0
+group 0 bucket 0 rows 3 sum 1\ngroup 0 bucket 1 rows 3 sum 1\ngroup 0 bucket 2 rows 3 sum 1\n|query 0 ends with bucket 2
+group 0 bucket 0 rows 3 sum 1\ngroup 0 bucket 2 rows 3 sum 1\n|line 2 has bucket 2 of query 0 where bucket 1 of query 0
+group 0 bucket 1 rows 3 sum 1\n|line 1 has bucket 1 of query 0 where bucket 0 of query 0
+group 1 bucket 0 rows 3 sum 1\n|line 1 begins query 1 where query 0
+group 0 bucket 0 rows 3 sum 1\ngroup 0 bucket 1 rows 4 sum 1\n|line 2 has 4 rows and a sum, and an earlier line of query 0 has 3 rows
+group 0 bucket 0 rows 3 sum 1\ngroup 0 bucket 1 rows 3 count 1\n|an earlier line of query 0 has 3 rows and a sum
+group 0 bucket 0 rows 3 count 4\n|line 1 counts 4 of 3 rows
+group 0 bucket 0 rows 3 sum 18446744073709551616\n|line 1 is no line
+group 0 bucket 0 rows 65537 sum 1\n|line 1 is no line
+group 0 bucket 0 rows 3 sum 01\n|line 1 is no line
+group 0 bucket 0 rows 3 sum 1e3\n|line 1 is no line
+group 0 bucket 0 rows 3 sum -1\n|line 1 is no line
+group 0 bucket 0  rows 3 sum 1\n|line 1 is no line
+group 0 bucket 0 rows 3 sum 1 \n|line 1 is no line
+group 0 bucket 0 rows 3 sum 1\r\n|line 1 is no line
+group 0 bucket 0 altered total 340282366920938463463374607431768211456 weighted 0\n|line 1 is no line
+\033[31mgroup\n|'?[31mgroup'
+group 0 bucket 0 rows 3\000 sum 1\n|has a byte 0
+LINES
+  is "none of these leaves a picture" no "$(exists "$room/none.svg")"
+  head -c 600000 /dev/zero | tr '\0' x | "$tree/waldo" plot >/dev/null 2>"$room/err"
+  is "a text without an end" "5 1" "$? $(wc -l <"$room/err")"
+  out=$(yes "group 0 bucket 0 rows 3 sum 1" | "$tree/waldo" plot 2>&1; echo "$?")
+  has "a text that never ends" "more than 500000 bytes" "$out"
+}
+
+# Wrong words have status 2 and one line: `the words|part of the line`.
+check_plot_words() {
+  local words line
+  while IFS='|' read -r words line; do
+    eval "set -- $words"
+    call plot "$@"
+    is "plot $words" "2:1" "$status:$(wc -l <"$room/err")"
+    has "its line" "$line" "$err"
+  done <<'WORDS'
+--svg|--svg needs the name of the file
+--svg=|--svg needs the name of the file
+--svg a --svg b|a second --svg
+--png a|'--png' is no option of plot
+a b|plot reads one file
+''|is empty
+WORDS
+  call plot /nonexistent
+  is "a file that isn't there" "3:1" "$status:$(wc -l <"$room/err")"
+  call plot "$room"
+  is "a folder" "3:1" "$status:$(wc -l <"$room/err")"
+  call plot --help
+  is "help on plot" 0 "$status"
+  has "has its option" "--svg FILE" "$out"
+}
+
+check_plot_writes() {
+  local old="$room/old.svg"
+  totals | "$tree/waldo" plot >/dev/full 2>/dev/null
+  is "a full disk, plot" 4 $?
+  totals | "$tree/waldo" plot >&- 2>/dev/null
+  is "a closed output, plot" 4 $?
+  totals | "$tree/waldo" plot --svg "$room/nowhere/x.svg" >"$room/one" 2>"$room/err"
+  is "a picture in no folder: status, bars and lines" "4 0 1" "$? $(wc -l <"$room/one") $(wc -l <"$room/err")"
+  echo old >"$old"
+  (
+    trap '' XFSZ
+    ulimit -f 0
+    totals | "$tree/waldo" plot --svg "$old" 2>/dev/null | cat >/dev/null
+    exit "${PIPESTATUS[1]}"
+  )
+  is "no room for the picture: the old one stays" "4 old" "$? $(cat "$old")"
+  is "and nothing beside it" "" "$(find "$room" -maxdepth 1 -name '.waldo-plot*')"
+  totals | "$tree/waldo" plot --svg "$old" >/dev/null
+  has "a picture takes the old one's place" "<svg" "$(cat "$old")"
+  for old in /dev/null /dev/full "$room" "$room/"; do
+    totals | "$tree/waldo" plot --svg "$old" >/dev/null 2>"$room/err"
+    is "a picture as $old" "4 1" "$? $(wc -l <"$room/err")"
+  done
+}
+
 all=(writes streams signals interrupt terminal freshness sources shells two_builds
-  read_only memory no_proc places no_build lines install schema)
+  read_only memory no_proc places no_build lines install schema plot)
 make_tree
 for check in "${@:-${all[@]}}"; do
   "check_$check"

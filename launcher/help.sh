@@ -22,10 +22,10 @@ help_on() {
   case $1 in
     '' | commands | -h | --help) title=Summary ;;
     schemas | queries | rows | schedules | messages) title=${1^} ;;
-    schema | help) ;;
+    schema | plot | help) ;;
     *)
       if ! is_command "$1"; then
-        say "there is no help on $(quoted "$1")$(nearest_or "$1" "${commands[@]}" schema "${topics[@]}")"
+        say "there is no help on $(quoted "$1")$(nearest_or "$1" "${commands[@]}" schema plot "${topics[@]}")"
         exit 2
       fi
       ;;

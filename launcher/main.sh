@@ -22,6 +22,10 @@ case $part in
     . "$home/launcher/schema.sh"
     propose_schema "${@:2}"
     ;;
+  plot)
+    . "$home/launcher/plot.sh"
+    plot_groups "${@:2}"
+    ;;
   build)
     # Asked again by bash, so that no build hangs on an odd shell.
     . "$home/launcher/fresh.sh"

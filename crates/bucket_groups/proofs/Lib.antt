@@ -3,3 +3,5 @@ pub mod Open
 pub mod Adding
 pub mod Parts
 pub mod Runs
+pub mod Visiting
+pub mod Judged

@@ -3,3 +3,4 @@ pub mod Grouped
 pub mod Laws
 pub mod Rounds
 pub mod Check
+pub mod Seen

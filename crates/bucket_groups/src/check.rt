@@ -1,7 +1,7 @@
 //! The client's check, bucket by bucket.
 ghost use Rattle.std.specs.Prelude.{◌≡◌, length, IfOk};
 ghost use Rattle.weighted_check.specs.Check.{checked};
-ghost use Rattle.bucket_groups.specs.Check.{answer_of, answers_of};
+ghost use Rattle.bucket_groups.specs.Check.{AreJudged, answer_of, answers_of};
 
 use crate::run::GroupTotals;
 use ring128::Memory;
@@ -57,6 +57,7 @@ fn answer(total: u128, weighted: u128, key: u128) -> GroupAnswer
 pub fn check_groups(alloc: Global, totals: &GroupTotals, key: u128) -> Result<GroupAnswers, Memory>
     requires { length totals.now.total ≡ length totals.now.weighted }
     ensures answers { IfOk result (λ a. a ≡ answers_of totals.now.total totals.now.weighted key) }
+    ensures accepts { IfOk result (λ a. AreJudged totals.now.total totals.now.weighted key a) }
 {
     let (total, weighted) = (totals.total.as_slice(), totals.weighted.as_slice());
     let mut items = Vec::with_capacity(alloc, total.len())?;

@@ -4,6 +4,7 @@
 
 mod check;
 pub mod laws;
+mod noted;
 mod part;
 mod rounds;
 mod run;

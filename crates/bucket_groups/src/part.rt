@@ -1,8 +1,9 @@
 //! What one server sends after the products of the bits.
-ghost use Rattle.std.specs.Prelude.{◌≡◌, ◌+◌, ◌*◌, ◌^◌, ◌<◌, ◌≤◌, map, length, IfOk};
+ghost use Rattle.std.specs.Prelude.{◌≡◌, ◌+◌, ◌*◌, ◌^◌, ◌<◌, ◌≤◌, [], ◌∷◌, map, length, IfOk};
 ghost use Rattle.onehot_column.specs.Code.{width_of};
 ghost use Rattle.server_rounds.specs.Plans.{views_of};
 ghost use Rattle.server_rounds.specs.Shelves.{AreShelves, pieces_of};
+ghost use Rattle.server_rounds.specs.Visits.{AreVisited};
 ghost use Rattle.bucket_groups.specs.Ending.{bucket_words, value_words};
 
 use crate::sums::bucket_sums;
@@ -50,6 +51,7 @@ pub(crate) fn value_part<S: Shelf>(
     ensures long { IfOk result (λ w. length w ≡ ready.now.plan.rows) }
     ensures words { IfOk result (λ w. w ≡ value_words ready.now.plan run (views_of ready.now.keys server)
         (pieces_of (map S.held shelves.old.items)) chain.now.first chain.now.second) }
+    ensures visits { AreVisited S.held S.visited (ready.now.plan.widths.columns ∷ []) shelves.old.items shelves.new.items result }
 {
     ready.rows();
     let values = ready.cells(alloc, shelves, ready.widths().columns)?;
@@ -77,6 +79,7 @@ pub(crate) fn bucket_part<S: Shelf>(
     ensures long { IfOk result (λ w. length w ≡ width_of ready.now.plan.widths column) }
     ensures words { IfOk result (λ w. w ≡ bucket_words ready.now.plan column run (views_of ready.now.keys server)
         (pieces_of (map S.held shelves.old.items)) held.now.first held.now.second) }
+    ensures visits { AreVisited S.held S.visited (column ∷ []) shelves.old.items shelves.new.items result }
 {
     ready.rows();
     let cells = ready.cells(alloc, shelves, column)?;

@@ -1,5 +1,5 @@
 //! The three messages of a step that comes after the products of the bits, at all servers.
-ghost use Rattle.std.specs.Prelude.{◌≡◌, ◌<◌, List, map, length, IfOk};
+ghost use Rattle.std.specs.Prelude.{◌≡◌, ◌<◌, List, [], ◌∷◌, map, length, IfOk};
 ghost use Rattle.ring128.specs.Ring.{sums3};
 ghost use Rattle.wire_line.specs.declared.message.Message.{Message};
 ghost use Rattle.wire_line.specs.Messages.{Went};
@@ -7,9 +7,16 @@ ghost use Rattle.onehot_column.specs.Code.{width_of};
 ghost use Rattle.server_rounds.specs.Groups.{by_server, AreLong, AreReshared, IsGroup};
 ghost use Rattle.server_rounds.specs.Plans.{views_of};
 ghost use Rattle.server_rounds.specs.Shelves.{AreShelves, pieces_of};
+ghost use Rattle.server_rounds.specs.Noted.{group_seen};
+ghost use Rattle.server_rounds.specs.Visits.{AllVisited};
 ghost use Rattle.server_rounds.specs.declared.way.Way.TheVariants.{Around, ToClient};
+ghost use Rattle.visit_trace.specs.Seen.{GrewBy};
+ghost use Rattle.visit_trace.specs.Expected.{bits_part};
+ghost use Rattle.visit_trace.specs.Sizes.{opened_columns};
 ghost use Rattle.bucket_groups.specs.Rounds.{AreOpened, AreValued, IsValuePart, buckets_of, values_of};
+ghost use Rattle.bucket_groups.specs.Seen.{buckets_part, values_part};
 
+use crate::noted::note_last;
 use crate::part::{bucket_part, value_part};
 use ring128::{Memory, Words, add_into};
 use scan_chunks::Shelf;
@@ -37,6 +44,7 @@ fn value_round<S: Shelf, W: Wire>(
     ensures zero { map S.held shelves.new.zero.items ≡ map S.held shelves.old.zero.items }
     ensures one { map S.held shelves.new.one.items ≡ map S.held shelves.old.one.items }
     ensures two { map S.held shelves.new.two.items ≡ map S.held shelves.old.two.items }
+    ensures visits { AllVisited S.held S.visited (ready.now.plan.widths.columns ∷ []) shelves.old shelves.new result }
     ensures long { IfOk result (λ held. AreLong ready.now.plan.rows held) }
     ensures messages { let pieces = by_server (pieces_of (map S.held shelves.old.zero.items))
         (pieces_of (map S.held shelves.old.one.items)) (pieces_of (map S.held shelves.old.two.items)) in
@@ -44,10 +52,12 @@ fn value_round<S: Shelf, W: Wire>(
         (ms : List Message) × Went W.sight wire.old ms wire.new
         × IsGroup Around (values_of ready.now.plan run views pieces chain.now) ms
         × IfOk result (λ held. AreReshared held ms) }
+    ensures trace { GrewBy trace.old trace.new (bits_part ready.now.plan ready.now.plan.widths.columns) result }
 {
     let zero = value_part(alloc, ready, 0, &mut shelves.zero, chain.zero(), run)?;
     let one = value_part(alloc, ready, 1, &mut shelves.one, chain.one(), run)?;
     let two = value_part(alloc, ready, 2, &mut shelves.two, chain.two(), run)?;
+    note_last(trace, shelves)?;
     let held = reshare(alloc, wire, trace, Trio { zero, one, two })?;
     Ok(held)
 }
@@ -71,6 +81,8 @@ pub(crate) fn before_buckets<S: Shelf, W: Wire>(
     ensures zero { map S.held shelves.new.zero.items ≡ map S.held shelves.old.zero.items }
     ensures one { map S.held shelves.new.one.items ≡ map S.held shelves.old.one.items }
     ensures two { map S.held shelves.new.two.items ≡ map S.held shelves.old.two.items }
+    ensures visits { AllVisited S.held S.visited (opened_columns ready.now.plan.shape.aggregate ready.now.plan.widths.columns)
+        shelves.old shelves.new result }
     ensures long { IfOk result (λ held. AreLong ready.now.plan.rows held) }
     ensures messages { let pieces = by_server (pieces_of (map S.held shelves.old.zero.items))
         (pieces_of (map S.held shelves.old.one.items)) (pieces_of (map S.held shelves.old.two.items)) in
@@ -78,6 +90,7 @@ pub(crate) fn before_buckets<S: Shelf, W: Wire>(
         (ms : List Message) × Went W.sight wire.old ms wire.new
         × IsValuePart ready.now.plan.shape.aggregate (values_of ready.now.plan run views pieces chain) ms
         × IfOk result (λ held. AreValued ready.now.plan.shape.aggregate chain ms held) }
+    ensures trace { GrewBy trace.old trace.new (values_part ready.now.plan.shape.aggregate ready.now.plan) result }
 {
     match ready.aggregate() {
         Aggregate::Count => Ok(chain),
@@ -92,9 +105,10 @@ pub(crate) fn before_buckets<S: Shelf, W: Wire>(
 fn opened<W: Wire>(wire: &mut W, trace: &mut Trace, words: Trio) -> Result<Words, Memory>
     requires one { length words.one ≡ length words.zero }
     requires two { length words.two ≡ length words.zero }
-    ensures { (ms : List Message) × Went W.sight wire.old ms wire.new
+    ensures messages { (ms : List Message) × Went W.sight wire.old ms wire.new
         × IsGroup ToClient (by_server words.zero words.one words.two) ms
         × IfOk result (λ totals. AreOpened ms totals) }
+    ensures trace { let n = length words.zero in GrewBy trace.old trace.new (group_seen ToClient n n n) result }
 {
     let got = carry_three(wire, trace, Way::ToClient, words)?;
     let mut totals = got.zero.into_vec();
@@ -123,16 +137,19 @@ pub(crate) fn bucket_round<S: Shelf, W: Wire>(
     ensures zero { map S.held shelves.new.zero.items ≡ map S.held shelves.old.zero.items }
     ensures one { map S.held shelves.new.one.items ≡ map S.held shelves.old.one.items }
     ensures two { map S.held shelves.new.two.items ≡ map S.held shelves.old.two.items }
+    ensures visits { AllVisited S.held S.visited (column ∷ []) shelves.old shelves.new result }
     ensures messages { let pieces = by_server (pieces_of (map S.held shelves.old.zero.items))
         (pieces_of (map S.held shelves.old.one.items)) (pieces_of (map S.held shelves.old.two.items)) in
         let views = views_of ready.now.keys in
         (ms : List Message) × Went W.sight wire.old ms wire.new
         × IsGroup ToClient (buckets_of ready.now.plan column run views pieces held.now) ms
         × IfOk result (λ totals. AreOpened ms totals) }
+    ensures trace { GrewBy trace.old trace.new (buckets_part ready.now.plan column) result }
 {
     let zero = bucket_part(alloc, ready, 0, &mut shelves.zero, held.zero(), column, run)?;
     let one = bucket_part(alloc, ready, 1, &mut shelves.one, held.one(), column, run)?;
     let two = bucket_part(alloc, ready, 2, &mut shelves.two, held.two(), column, run)?;
+    note_last(trace, shelves)?;
     let totals = opened(wire, trace, Trio { zero, one, two })?;
     Ok(totals)
 }

@@ -1,9 +1,11 @@
-use Rattle.std.proofs.Common.{ap, length, map, ◌∙◌, ◌≡◌}
+use Rattle.std.proofs.Common.{[], ◌∷◌, ap, length, map, ◌∙◌, ◌≡◌}
 use Rattle.list_facts.proofs.Listed.{length-listed}
 use Rattle.table_schema.specs.declared.widths.Widths.{Widths}
 use Rattle.server_rounds.specs.Plans.{views_of}
 use Rattle.server_rounds.specs.Shelves.{pieces_of}
 use Rattle.bucket_groups.proofs.Parts.{value_is}
+use Rattle.server_rounds.proofs.Visiting.{visited_stopped}
+use Rattle.bucket_groups.proofs.Visiting.{made_begun}
 use Rattle.bucket_groups.proofs.part.value_part.Goals as goal
 
 pub returns-clause-long : goal.returns-clause-long
@@ -15,3 +17,10 @@ returns-clause-words g c =
     ∙ value_is c.args.ready.now.plan c.args.run (views_of c.args.ready.now.keys c.args.server) (pieces_of (map g.S.Shelf.held c.args.shelves.now.items))
     c.args.chain.now.first c.args.chain.now.second c.in_ok-values.values.first c.in_ok-values.values.second _ _ _ c.widths.result.columns
     c.counter-start.ensures.value (ap (λ (w : Widths). w.columns) c.widths.ensures) c.in_ok-values.ensures.first c.in_ok-values.ensures.second c.zero.ensures.own c.zero.ensures.next
+
+pub returns-in_err-words-clause-visits : goal.returns-in_err-words-clause-visits
+returns-in_err-words-clause-visits g c =
+    let held = g.S.Shelf.held in
+    let visited = g.S.Shelf.visited in
+    let columns = c.args.ready.now.plan.widths.columns ∷ [] in
+    visited_stopped held visited columns _ _ _ c.from_residual-in_err-words.ensures.0 (made_begun held visited columns _ _ (rw c.widths.ensures at c.in_ok-values.ensures.visits))

@@ -1,10 +1,13 @@
 use Rattle.std.proofs.Common.{◌≡◌, ◌∙◌, refl, sym, ap, List, ℕ, length, arith, rules}
 use Rattle.ring128.specs.Ring.{sums3}
+use Rattle.visit_trace.specs.Growing.{by_stopped}
+use Rattle.server_rounds.specs.declared.way.Way.TheVariants.{ToClient}
+use Rattle.server_rounds.proofs.Noting.{group_same, grew_along, prefix_along}
 use Rattle.bucket_groups.proofs.Adding.{added_twice}
 use Rattle.bucket_groups.proofs.rounds.opened.Goals as goal
 
-pub returns : goal.returns
-returns g c =
+pub returns-clause-messages : goal.returns-clause-messages
+returns-clause-messages g c =
     let h = c.in_ok-got.ensures.messages in
     let got = c.in_ok-got.got in
     let long = c.in_ok-got.ensures.long in
@@ -24,3 +27,11 @@ returns g c =
             ∙ sym (rw (r.at0, r.at1, r.at2) refl);
       },
     )
+
+pub returns-in_err-got-clause-trace : goal.returns-in_err-got-clause-trace
+returns-in_err-got-clause-trace g c =
+    by_stopped _ _ _ _ c.from_residual.ensures.0
+    (prefix_along _ _ _ _ (group_same ToClient _ _ _ (length c.args.words.zero) refl c.requires.one c.requires.two) c.in_err-got.ensures.trace)
+
+pub returns-clause-trace : goal.returns-clause-trace
+returns-clause-trace g c = grew_along _ _ _ _ (group_same ToClient _ _ _ (length c.args.words.zero) refl c.requires.one c.requires.two) c.in_ok-got.ensures.trace

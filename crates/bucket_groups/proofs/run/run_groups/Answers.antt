@@ -1,9 +1,13 @@
-use Rattle.std.proofs.Common.{◌≡◌, ◌∙◌, ◌<◌, ◌++◌, ap, sym, subst, rules, arith, map}
+use Rattle.std.proofs.Common.{◌≡◌, ◌∙◌, ◌<◌, ◌++◌, [], ◌∷◌, ap, sym, subst, rules, arith, map}
 use Rattle.wire_line.specs.Carried.{went_both}
 use Rattle.transcript.specs.Setup.{Sizes, count_of}
 use Rattle.server_rounds.specs.Groups.{AreLong}
+use Rattle.server_rounds.specs.Visits.{predicate_columns, opened_columns, run_columns}
+use Rattle.server_rounds.proofs.Visiting.{all_cut, all_done, all_fails, all_then}
+use Rattle.visit_trace.specs.Growing.{by_stopped}
 use Rattle.bucket_groups.specs.Ending.{bucket_ending}
 use Rattle.bucket_groups.proofs.Runs.{before_part, buckets_part, buckets_end}
+use Rattle.bucket_groups.proofs.Visiting.{run_after_products, run_after_values, run_all, run_cut}
 use Rattle.bucket_groups.proofs.run.run_groups.Goals as goal
 
 pub into_chain-chain-requires : goal.into_chain-chain-requires
@@ -92,3 +96,68 @@ returns-clause-messages g c =
       buckets_part _ c.args.column _ _ _ _ _ p.messages.0 v.0 o.0 c.requires.run p.messages.3 v.2 v.3 o.2,
       buckets_end _ c.args.column _ _ _ _ _ p.messages.0 v.0 o.0 _ c.requires.run p.messages.3 v.2 v.3 o.2 o.3,
     )
+
+pub returns-in_err-product-clause-visits : goal.returns-in_err-product-clause-visits
+returns-in_err-product-clause-visits g c =
+    let held = g.S.Shelf.held in
+    let visited = g.S.Shelf.visited in
+    let z = c.args.ready.now.plan in
+    let values = opened_columns z.shape.aggregate z.widths.columns in
+    let last = c.args.column ∷ [] in
+    let failed = c.from_residual.ensures.0 in
+    all_cut held visited (run_columns z) last _ _ _ _ failed (all_cut held visited (predicate_columns z) values _ _ _ _ c.from_residual.ensures.0 c.in_err-product.ensures.visits)
+
+pub returns-in_err-held-clause-visits : goal.returns-in_err-held-clause-visits
+returns-in_err-held-clause-visits g c =
+    let held = g.S.Shelf.held in
+    let visited = g.S.Shelf.visited in
+    let z = c.args.ready.now.plan in
+    let values = opened_columns z.shape.aggregate z.widths.columns in
+    let last = c.args.column ∷ [] in
+    let p = c.in_ok-product.ensures in
+    let both = all_then held visited (predicate_columns z) values _ _ _ _ _ p.zero p.one p.two p.visits c.in_err-held.ensures.visits in
+    all_cut held visited (run_columns z) last _ _ _ _ c.from_residual-in_err-held.ensures.0 both
+
+pub returns-in_err-totals-clause-visits : goal.returns-in_err-totals-clause-visits
+returns-in_err-totals-clause-visits g c =
+    let held = g.S.Shelf.held in
+    let visited = g.S.Shelf.visited in
+    let z = c.args.ready.now.plan in
+    let values = opened_columns z.shape.aggregate z.widths.columns in
+    let last = c.args.column ∷ [] in
+    let p = c.in_ok-product.ensures in
+    let h = c.in_ok-held.ensures in
+    let both = all_then held visited (predicate_columns z) values _ _ _ _ _ p.zero p.one p.two p.visits h.visits in
+    let three = all_then held visited (run_columns z) last _ _ _ _ _ (h.zero ∙ p.zero) (h.one ∙ p.one) (h.two ∙ p.two) both c.in_err-totals.ensures.visits in
+    all_fails held visited _ _ _ _ _ c.from_residual-in_err-totals.ensures.0 three
+
+pub returns-clause-visits : goal.returns-clause-visits
+returns-clause-visits g c =
+    let held = g.S.Shelf.held in
+    let visited = g.S.Shelf.visited in
+    let z = c.args.ready.now.plan in
+    let values = opened_columns z.shape.aggregate z.widths.columns in
+    let last = c.args.column ∷ [] in
+    let p = c.in_ok-product.ensures in
+    let h = c.in_ok-held.ensures in
+    let both = all_then held visited (predicate_columns z) values _ _ _ _ _ p.zero p.one p.two p.visits h.visits in
+    let three = all_then held visited (run_columns z) last _ _ _ _ _ (h.zero ∙ p.zero) (h.one ∙ p.one) (h.two ∙ p.two) both c.in_ok-totals.ensures.visits in
+    all_done held visited _ _ _ _ _ three
+
+pub returns-in_err-product-clause-trace : goal.returns-in_err-product-clause-trace
+returns-in_err-product-clause-trace g c =
+    by_stopped _ _ _ _ c.from_residual.ensures.0 (run_cut c.args.ready.now.plan c.args.column _ _ c.in_err-product.ensures.trace)
+
+pub returns-in_err-held-clause-trace : goal.returns-in_err-held-clause-trace
+returns-in_err-held-clause-trace g c =
+    by_stopped _ _ _ _ c.from_residual-in_err-held.ensures.0
+    (run_after_products c.args.ready.now.plan c.args.column _ _ _ c.in_ok-product.ensures.trace c.in_err-held.ensures.trace)
+
+pub returns-in_err-totals-clause-trace : goal.returns-in_err-totals-clause-trace
+returns-in_err-totals-clause-trace g c =
+    by_stopped _ _ _ _ c.from_residual-in_err-totals.ensures.0
+    (run_after_values c.args.ready.now.plan c.args.column _ _ _ _ c.in_ok-product.ensures.trace c.in_ok-held.ensures.trace c.in_err-totals.ensures.trace)
+
+pub returns-clause-trace : goal.returns-clause-trace
+returns-clause-trace g c =
+    run_all c.args.ready.now.plan c.args.column _ _ _ _ c.in_ok-product.ensures.trace c.in_ok-held.ensures.trace c.in_ok-totals.ensures.trace

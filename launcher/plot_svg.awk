@@ -1,0 +1,50 @@
+# Draws the totals that plot_read.awk has read, as an SVG picture: a chart for each query, one below the other, with a title, an axis of the
+# totals with its scale, and an axis of the buckets. A refused bucket is a grey field as high as the chart.
+BEGIN { left = 190; top = 50; wide = 640; high = 240; below = 60; all_high = top + high + below }
+
+END {
+  end_reading()
+  printf "<svg xmlns=\"http://www.w3.org/2000/svg\" width=\"%d\" height=\"%d\" viewBox=\"0 0 %d %d\" ", left + wide + 40, queries * all_high, left + wide + 40, queries * all_high
+  print "font-family=\"sans-serif\" font-size=\"13\" fill=\"#222\">"
+  print "<title>Totals by bucket</title>"
+  print "<rect width=\"100%\" height=\"100%\" fill=\"#fff\"/>"
+  for (q = 0; q < queries; q++) draw(q, q * all_high + top)
+  print "</svg>"
+}
+
+function draw(query, from,    b, end) {
+  end = scale_end(query)
+  print text(left + wide / 2, from - 22, "middle", title(query), " font-size=\"16\"")
+  draw_scale(query, from, end)
+  for (b = 0; b < buckets[query]; b++) draw_bucket(query, b, from, end)
+  printf "<path d=\"M%d %dV%dH%d\" fill=\"none\" stroke=\"#222\"/>\n", left, from, from + high, left + wide
+  print text(left + wide / 2, from + high + 42, "middle", "bucket", "")
+}
+
+# Lines across the chart at quarters of the scale, each with its number where it is whole.
+function draw_scale(query, from, end,    i, at) {
+  for (i = 0; i <= 4; i++) {
+    at = from + high - i * high / 4
+    if (i > 0) printf "<path d=\"M%d %dH%d\" stroke=\"#ddd\"/>\n", left, at, left + wide
+    if (end * i % 4 == 0) print text(left - 8, at + 4, "end", sprintf("%.0f", end / 4 * i), "")
+  }
+  print text(20, from + high / 2, "start", sort[query] == "" ? "total" : sort[query], "")
+}
+
+function draw_bucket(query, bucket, from, end,    step, at, tall) {
+  step = wide / buckets[query]
+  at = left + bucket * step
+  if ((query, bucket) in refused) {
+    printf "<rect x=\"%.2f\" y=\"%d\" width=\"%.2f\" height=\"%d\" fill=\"#ccc\"><title>bucket %d: refused, the check found it altered</title></rect>\n", at + step / 8, from, step * 3 / 4, high, bucket
+    if (buckets[query] <= 16) print text(at + step / 2, from + high / 2, "middle", buckets[query] <= 8 ? "refused" : "?", "")
+  } else {
+    tall = (total[query, bucket] + 0) / end * high
+    printf "<rect x=\"%.2f\" y=\"%.2f\" width=\"%.2f\" height=\"%.2f\" fill=\"#36c\"><title>bucket %d: %s</title></rect>\n", at + step / 8, from + high - tall, step * 3 / 4, tall, bucket, total[query, bucket]
+    if (7 * length(total[query, bucket]) < step) print text(at + step / 2, from + high - tall - 4, "middle", total[query, bucket], "")
+  }
+  if (bucket % (buckets[query] <= 32 ? 1 : 16) == 0) print text(at + step / 2, from + high + 20, "middle", bucket, "")
+}
+
+function text(x, y, anchor, words, more) {
+  return sprintf("<text x=\"%.2f\" y=\"%.2f\" text-anchor=\"%s\"%s>%s</text>", x, y, anchor, more, words)
+}
