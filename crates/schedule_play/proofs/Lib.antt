@@ -1,4 +1,5 @@
 pub mod Advancing
+pub mod AllAgreed
 pub mod AppendedRows
 pub mod AskedHonest
 pub mod AskedPlain
