@@ -6,4 +6,6 @@ pub mod Run
 pub mod Tampered
 pub mod Tasks
 pub mod Traces
+pub mod Trees
 pub mod Words
+pub mod Works
