@@ -132,6 +132,8 @@ back_quiet n writers order w (lines.Place place row) h = refl
 back_quiet n writers order w (lines.Back writer rows) h = refl
 back_quiet n writers order w (lines.BackAgain writer server had floor) h = refl
 back_quiet n writers order w (lines.Trace index server visits words) h = refl
+back_quiet n writers order w (lines.Tree low high total nodes) h = refl
+back_quiet n writers order w (lines.TreeAltered total weighted) h = absurd h
 back_quiet n writers order w (lines.BadWord index) h = refl
 back_quiet n writers order w (lines.Missing name) h = refl
 back_quiet n writers order w (lines.BadStep index) h = refl
@@ -140,6 +142,7 @@ back_quiet n writers order w lines.TooLong h = refl
 back_quiet n writers order w lines.Header h = refl
 back_quiet n writers order w (lines.BadRecord number why) h = refl
 back_quiet n writers order w (lines.TooMany capacity) h = refl
+back_quiet n writers order w (lines.TooFew wanted) h = refl
 
 backs_quiet : (n writers : ℕ) (order : List ℕ) (from : ℕ) (said : List Line) → ((w : ℕ) (line : Line) → slice_get said w ≡ Some line → IsBackLine n writers order (from + w) line) → list_any is_altered said ≡ false
 backs_quiet n writers order from [] each = refl

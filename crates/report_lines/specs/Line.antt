@@ -49,6 +49,9 @@ line_text (lines.BackAgain writer server had floor) = back_gap_text writer serve
 line_text (lines.Trace index server visits words) =
     codes "trace " ++ decimal index ++ codes " server " ++ decimal server
     ++ codes " visits " ++ decimal visits ++ codes " words " ++ decimal words
+line_text (lines.Tree low high total nodes) =
+    codes "tree 0 places " ++ decimal low ++ codes " to " ++ decimal high ++ codes " count " ++ decimal total ++ codes " nodes " ++ decimal nodes
+line_text (lines.TreeAltered total weighted) = codes "tree 0 altered total " ++ decimal total ++ codes " weighted " ++ decimal weighted
 line_text (lines.BadWord index) = codes "waldo: bad word " ++ decimal index
 line_text (lines.Missing name) = codes "waldo: missing " ++ name
 line_text (lines.BadStep index) = codes "waldo: step " ++ decimal index ++ codes " not allowed"
@@ -57,6 +60,7 @@ line_text lines.TooLong = codes "waldo: input too long"
 line_text lines.Header = codes "waldo: header"
 line_text (lines.BadRecord number why) = codes "waldo: record " ++ decimal number ++ codes " " ++ why_text why
 line_text (lines.TooMany capacity) = codes "waldo: more rows than " ++ decimal capacity
+line_text (lines.TooFew wanted) = codes "waldo: fewer rows than " ++ decimal wanted
 
 -- the lines' texts in order, each with a line feed
 abbrev pub text_of : List Line → List ℕ

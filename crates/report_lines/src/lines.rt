@@ -93,6 +93,18 @@ pub enum Line {
         visits: u64,
         words: u64,
     },
+    /// How many of the rows at the places from `low` to `high` - 1 pass, and the number of nodes of a tree that the range is cut into.
+    Tree {
+        low: u64,
+        high: u64,
+        total: u64,
+        nodes: u64,
+    },
+    /// The check refused the total and weighted total that were opened for a range of places.
+    TreeAltered {
+        total: u128,
+        weighted: u128,
+    },
     /// The command word with this index, from 0, is refused.
     BadWord {
         index: u64,
@@ -119,6 +131,10 @@ pub enum Line {
     /// There are more rows than the table has room for.
     TooMany {
         capacity: u32,
+    },
+    /// There are fewer rows than a range of places asks for.
+    TooFew {
+        wanted: u64,
     },
 }
 
@@ -272,6 +288,20 @@ impl fmt::Display for Line {
                     "trace {index} server {server} visits {visits} words {words}"
                 )
             }
+            Line::Tree {
+                low,
+                high,
+                total,
+                nodes,
+            } => {
+                write!(
+                    f,
+                    "tree 0 places {low} to {high} count {total} nodes {nodes}"
+                )
+            }
+            Line::TreeAltered { total, weighted } => {
+                write!(f, "tree 0 altered total {total} weighted {weighted}")
+            }
             Line::BadWord { index } => write!(f, "waldo: bad word {index}"),
             Line::Missing { name } => write!(f, "waldo: missing {}", name.as_str()),
             Line::BadStep { index } => write!(f, "waldo: step {index} not allowed"),
@@ -280,6 +310,7 @@ impl fmt::Display for Line {
             Line::Header => write!(f, "waldo: header"),
             Line::BadRecord { number, why } => write!(f, "waldo: record {number} {why}"),
             Line::TooMany { capacity } => write!(f, "waldo: more rows than {capacity}"),
+            Line::TooFew { wanted } => write!(f, "waldo: fewer rows than {wanted}"),
         }
     }
 }

@@ -14,6 +14,8 @@ pub enum Name {
     Number,
     Rows,
     Shift,
+    From,
+    To,
 }
 
 /// The name of a command word that is missing, seen as its bytes.
@@ -51,6 +53,8 @@ impl NameText {
             Name::Number => "--number",
             Name::Rows => "--rows",
             Name::Shift => "--shift",
+            Name::From => "--from",
+            Name::To => "--to",
         }
     }
 }

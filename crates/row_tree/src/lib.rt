@@ -12,6 +12,7 @@
 
 mod covering;
 mod exchange;
+mod growing;
 pub mod laws;
 mod node;
 mod opening;
@@ -22,6 +23,7 @@ mod tree;
 
 pub use covering::cover;
 pub use exchange::TreePair;
+pub use growing::add_shelves;
 pub use node::Node;
 pub use runs::{Trees, tree_runs};
 pub use tree::RowTree;

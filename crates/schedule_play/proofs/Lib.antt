@@ -1,5 +1,6 @@
 pub mod Advancing
 pub mod Alike
+pub mod AllAgreed
 pub mod AppendedRows
 pub mod AskedHonest
 pub mod AskedPlain

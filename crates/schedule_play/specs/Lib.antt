@@ -1,8 +1,9 @@
+pub mod AllAgreed
 pub mod Appended
 pub mod History
 pub mod Laws
-pub mod Plain
 pub mod Leads
+pub mod Plain
 pub mod Plays
 pub mod Ready
 pub mod Stages

@@ -21,6 +21,7 @@
 //! ```
 #![tactic(auto)]
 
+mod agreeing;
 mod entries;
 pub mod laws;
 mod play;
@@ -29,6 +30,7 @@ mod setting;
 mod steps;
 mod style;
 
+pub use agreeing::agree;
 pub use play::{PlayFault, Played, ask, ask_over, replay};
 pub use setting::Setting;
 pub use style::Style;

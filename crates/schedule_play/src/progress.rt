@@ -97,6 +97,21 @@ impl Progress {
         Ok(())
     }
 
+    /// The machine as it is now.
+    pub(crate) fn into_machine(self) -> Machine
+        ensures { result ≡ self.machine }
+    {
+        let Progress {
+            machine,
+            rounds: _,
+            report: _,
+            altered: _,
+            drawn: _,
+            done: _,
+        } = self;
+        machine
+    }
+
     /// What all steps came to.
     pub(crate) fn into_played(self) -> Played
         ensures report { result.report ≡ (stage_of self).lines }

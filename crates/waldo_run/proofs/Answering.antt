@@ -1,5 +1,5 @@
 -- The reply to what the steps of a command came to.
-use Rattle.std.proofs.Common.{◌≡◌, ◌≢◌, ◌∙◌, refl, sym, ap, ℕ, false, cond, List, arith}
+use Rattle.std.proofs.Common.{◌≡◌, ◌≢◌, ◌∙◌, refl, sym, ap, subst, ℕ, false, cond, List, arith}
 use Rattle.std.specs.Prelude.{Result, Ok, Err, IfOk, OnErr}
 use Rattle.ring128.specs.declared.memory.Memory.{Memory}
 use Rattle.table_schema.specs.declared.rows.Row.{Row}
@@ -15,6 +15,8 @@ use Rattle.waldo_words.specs.declared.command.Command.{Command}
 use Rattle.waldo_run.specs.Replies.{IsReplyOf, Reply, checked_answer, ended, reported, rows_reply}
 use Rattle.waldo_run.specs.Run.{AskedOver, BegunOver}
 use Rattle.waldo_run.specs.Tasks.{AreWidthsIn, task_over}
+use Rattle.waldo_run.specs.Works.{Begins, IsDone, IsPlainly, IsWork, PlaysSteps, Work}
+use Rattle.waldo_run.specs.Works.Work.{Steps}
 use Rattle.waldo_run.proofs.Begun.{all_begun}
 use Rattle.waldo_run.proofs.Tracing.{reported_status}
 
@@ -25,14 +27,15 @@ broken w task history (Err (faults.NotAllowed t)) e = all_begun w task.setting t
 broken w task history (Err faults.Memory) e = e
 
 pub begun : (command : Command) (w : Widths) (rows : List Row) (history : List Done) (r : Result Played PlayFault) → AreWidthsIn command w
-    → Ended w (task_over command rows) history r → (result : Result Reply Memory) → OnErr result (BegunOver command history rows)
-begun command w rows history r of e (Ok reply) = tt
-begun command w rows history r of e (Err memory) = record { widths = w; of = of; broken = broken w (task_over command rows) history r e }
+    → PlaysSteps command rows → Ended w (task_over command rows) history r → (result : Result Reply Memory) → OnErr result (BegunOver command history rows)
+begun command w rows history r of steps e (Ok reply) = tt
+begun command w rows history r of steps e (Err memory) =
+    record { widths = w; of = of; begun = subst (λ (work : Work). Begins w work history) (sym steps) (broken w (task_over command rows) history r e) }
 
 -- what there is of a reply
 record Replied (w : Widths) (task : Task) (history : List Done) (unaltered : ℕ → Type 0) (reply : Reply) : Type 0 where
   done : HasHistory w task history
-  is : reply ≡ checked_answer history task
+  is : reply ≡ checked_answer history (Steps task)
   accepted : ((actor : ℕ) → unaltered actor) → reply.status ≢ 7
 
 at_end : (p : Played) (r : Result Stage ℕ) → EndsWith p r → ended r ≡ record { status = cond p.altered 7 0; report = p.report }
@@ -60,15 +63,22 @@ replied w task history unaltered (Err (faults.NotAllowed t)) e accepted reply is
 replied w task history unaltered (Err faults.Memory) e accepted reply is = absurd is
 
 pub answered : (command : Command) (w : Widths) (rows : List Row) (carried : List Done → Type 0) (unaltered : ℕ → Type 0) (r : Result Played PlayFault) → AreWidthsIn command w
-    → IsSetting w (task_over command rows).setting → (p : Plays w (task_over command rows) carried unaltered r) → (first : Reply) → IsReplyOf r first
+    → PlaysSteps command rows → IsSetting w (task_over command rows).setting → (p : Plays w (task_over command rows) carried unaltered r) → (first : Reply) → IsReplyOf r first
     → (result : Result Reply Memory) → IfOk result (λ (reply : Reply). reply ≡ reported command rows first)
     → IfOk result (λ (reply : Reply). AskedOver unaltered command p.history rows × (reply ≡ rows_reply (checked_answer p.history) command rows)
     × (((actor : ℕ) → unaltered actor) → reply.status ≢ 7))
-answered command w rows carried unaltered r of legal p first from (Err memory) is = tt
-answered command w rows carried unaltered r of legal p first from (Ok reply) is =
+answered command w rows carried unaltered r of steps legal p first from (Err memory) is = tt
+answered command w rows carried unaltered r of steps legal p first from (Ok reply) is =
     let said = replied w (task_over command rows) p.history unaltered r p.ended p.accepted first from in
     let status : reply.status ≡ first.status = ap (λ (x : Reply). x.status) is ∙ reported_status command rows first in (
-      record { widths = w; of = of; legal = legal; done = said.done; honest = p.honest; plain = p.plain },
-      is ∙ ap (reported command rows) said.is,
+      record {
+        widths = w;
+        of = of;
+        legal = subst (IsWork w) (sym steps) legal;
+        done = subst (λ (work : Work). IsDone w work p.history) (sym steps) said.done;
+        honest = p.honest;
+        plain = subst (λ (work : Work). IsPlainly work p.history) (sym steps) p.plain;
+      },
+      is ∙ ap (reported command rows) (said.is ∙ ap (checked_answer p.history) (sym steps)),
       λ still seven. said.accepted still (sym status ∙ seven),
     )

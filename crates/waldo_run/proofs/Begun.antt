@@ -21,13 +21,19 @@ use Rattle.waldo_words.specs.declared.faults.WordFault.TheVariants as faults
 use Rattle.waldo_words.specs.declared.schedule.Step.{Step}
 use Rattle.waldo_run.specs.Replies.{Reply, Suits, checked_answer, refusal, reply_over, row_refusal, rows_reply, single, unread}
 use Rattle.waldo_run.specs.Run.{Answers, Asked, AskedIn, AskedOver, Begun, BegunAt, BegunIn, BegunOver, Breaks, Replies}
-use Rattle.waldo_run.specs.Tasks.{AreWidthsIn, common_in, reads_input, rows_in, rows_made, task_over}
+use Rattle.waldo_run.specs.Tasks.{AreWidthsIn, common_in, reads_input, rows_in, rows_made}
+use Rattle.waldo_run.specs.Works.{Begins, IsDone, Work, work_over}
+use Rattle.waldo_run.specs.Works.Work.{Steps, Range}
 use Rattle.fault_count.specs.Streams.{Change}
 
--- without a step nothing was begun
+-- without a message nothing was begun
+none_begins : (w : Widths) (work : Work) → Begins w work []
+none_begins w (Steps task) = tt
+none_begins w (Range s low high) = tt
+
 pub none_begun : (command : Command) (w : Widths) → AreWidthsIn command w → (rows : Result (List Row) RowFault) → BegunIn command [] rows
 none_begun command w of (Err fault) = refl
-none_begun command w of (Ok rows) = record { widths = w; of = of; broken = tt }
+none_begun command w of (Ok rows) = record { widths = w; of = of; begun = none_begins w (work_over command rows) }
 
 refusal_status : (fault : RowFault) → (row_refusal fault).status ≢ 7
 refusal_status row.Header e = omega (arith, e)
@@ -205,11 +211,17 @@ all_begun w s style stage (x ∷ xs) (d ∷ ds) h = (h.0, inl (h.1, on (next_sta
     on None g rest = absurd g
     on (Some next) g rest = rest next g
 
+-- all messages of a command's work are the first ones of it
+done_begins : (w : Widths) (work : Work) (history : List Done) → IsDone w work history → Begins w work history
+done_begins w (Steps task) history h = all_begun w task.setting task.style _ task.steps history h
+done_begins w (Range s low high) [] h = tt
+done_begins w (Range s low high) (d ∷ []) h = (h.1, h.2.part)
+done_begins w (Range s low high) (d ∷ e ∷ ds) h = absurd h
+
 begun_in : (unaltered : ℕ → Type 0) (command : Command) (history : List Done) (r : Result (List Row) RowFault) → AskedIn unaltered command history r → BegunIn command history r
 begun_in unaltered command history (Err fault) asked = asked
 begun_in unaltered command history (Ok rows) asked =
-    let task = task_over command rows in
-    record { widths = asked.widths; of = asked.of; broken = all_begun asked.widths task.setting task.style _ task.steps history asked.done }
+    record { widths = asked.widths; of = asked.of; begun = done_begins asked.widths (work_over command rows) history asked.done }
 
 begun_at : (unaltered : ℕ → Type 0) (command : Command) (history : List Done) (reading : Reading) → Asked unaltered (Ok command) history reading → BegunAt command history reading
 begun_at unaltered command history Untouched asked = begun_in unaltered command history (Ok (rows_made command)) asked

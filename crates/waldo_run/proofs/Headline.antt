@@ -50,6 +50,7 @@ module _ (source sink : Change) (carried : List Done → Type 0) (unaltered : �
   over_rows (commands.Race c writers askers rounds) rows has run sure still = absurd has
   over_rows (commands.Trace c) rows has run sure still = absurd has
   over_rows (commands.Tamper c shifts) rows has run sure still = absurd has
+  over_rows (commands.Tree c low high) rows has run sure still = absurd has
 
 pub asked_of : (said : Result Command WordFault) (source sink : Change) (carried : List Done → Type 0) (unaltered : ℕ → Type 0) (status : ℕ)
     → Runs said source carried unaltered sink status → (Rose source.before source.now → ⊥) → ((actor : ℕ) → unaltered actor)
@@ -67,3 +68,4 @@ asks_straight said (commands.Replay c schedule) input rows is has = absurd has
 asks_straight said (commands.Race c writers askers rounds) input rows is has = absurd has
 asks_straight said (commands.Trace c) input rows is has = absurd has
 asks_straight said (commands.Tamper c shifts) input rows is has = absurd has
+asks_straight said (commands.Tree c low high) input rows is has = absurd has

@@ -84,17 +84,17 @@ both : {A B E : Type 0} (P : B → Type 0) (r : Result A E) (f : A → Result B 
 both P (Err why) f c each e = absurd cc
 both P (Ok x) f c each e = each x refl e
 
-of_found : (k : _) (columns : List Column) (found : _) (c : Command) → ok_or (command_named (codes "race")) (Word 0) ≡ Ok k → finished k columns found ≡ Ok c → IsRacing c
+of_found : (words : List (List ℕ)) (k : _) (columns : List Column) (found : _) (c : Command) → ok_or (command_named (codes "race")) (Word 0) ≡ Ok k → finished words k columns found ≡ Ok c → IsRacing c
 unfolding command_named finished
-of_found k columns found c is e =
-    both IsRacing (guard (is_some_of found.queries) (Missing (codes "--query"))) (λ _. ok_or (command_named (codes "race")) (Word 0) >>= λ r. command_with r columns found) c
+of_found words k columns found c is e =
+    both IsRacing (guard (is_some_of found.queries) (Missing (codes "--query"))) (λ _. ok_or (command_named (codes "race")) (Word 0) >>= λ r. command_with words r columns found) c
     (λ _ _ q. subst IsRacing (ok_same q) tt) (rw (← ok_same is) at e)
 
 of_options : (columns : List Column) (words : List (List ℕ)) (c : Command)
-    → (ok_or (command_named (codes "race")) (Word 0) >>= λ k. options_from k columns 2 beginning words >>= λ found. finished k columns found) ≡ Ok c → IsRacing c
+    → (ok_or (command_named (codes "race")) (Word 0) >>= λ k. options_from k columns 2 beginning words >>= λ found. finished words k columns found) ≡ Ok c → IsRacing c
 of_options columns words c e =
-    both IsRacing (ok_or (command_named (codes "race")) (Word 0)) (λ k. options_from k columns 2 beginning words >>= λ found. finished k columns found) c
-    (λ k is q. both IsRacing (options_from k columns 2 beginning words) (λ found. finished k columns found) c (λ found _ f. of_found k columns found c is f) q) e
+    both IsRacing (ok_or (command_named (codes "race")) (Word 0)) (λ k. options_from k columns 2 beginning words >>= λ found. finished words k columns found) c
+    (λ k is q. both IsRacing (options_from k columns 2 beginning words) (λ found. finished words k columns found) c (λ found _ f. of_found words k columns found c is f) q) e
 
 of_schema : (words : List (List ℕ)) (r : Result (List Column) SchemaFault) (c : Command) → (ok_or (command_named (codes "race")) (Word 0) >>= λ k. after_schema k words r) ≡ Ok c → IsRacing c
 unfolding command_named

@@ -1,5 +1,6 @@
 -- The setting of a command is legal.
-use Rattle.std.proofs.Common.{sym, subst, ℕ, ◌*◌, ◌≤◌, List, All, length, map, max, arith}
+use Rattle.std.proofs.Common.{◌≡◌, refl, true, ◌&&◌, eqb, sym, subst, ℕ, ◌*◌, ◌≤◌, List, All, length, map, max, arith}
+use Rattle.std.proofs.lemmas.Bool.{eqb-true}
 use Rattle.std.proofs.lemmas.Nat.{mul-le}
 use Rattle.query_plan.specs.Query.{AreWidthsOf}
 use Rattle.table_schema.specs.Widths.{Fits, Holds, code_length}
@@ -7,11 +8,15 @@ use Rattle.table_schema.specs.declared.rows.Row.{Row}
 use Rattle.table_schema.specs.declared.schema.Column.{Column}
 use Rattle.table_schema.specs.declared.widths.Widths.{Widths}
 use Rattle.schedule_play.specs.Tasks.{IsSetting}
-use Rattle.waldo_words.specs.Legal.{IsCommon, IsLegal}
+use Rattle.table_schema.specs.declared.shapes.Aggregate.{Aggregate}
+use Rattle.table_schema.specs.declared.shapes.Aggregate.TheVariants.{Count, Sum}
+use Rattle.waldo_words.specs.Legal.{IsCommon, IsLegal, IsTree}
+use Rattle.waldo_words.specs.Options.{is_count}
 use Rattle.waldo_words.specs.declared.command.Common.{Common}
 use Rattle.waldo_words.specs.declared.command.Command.{Command}
 use Rattle.waldo_words.specs.declared.command.Command.TheVariants as commands
 use Rattle.waldo_run.specs.Tasks.{AreWidthsIn, common_in, setting_of, task_over}
+use Rattle.waldo_run.specs.Trees.{IsRange, no_query, query_in}
 
 -- room for the rows is no more than the capacity
 fits_less : (bits : List ℕ) (capacity n : ℕ) → Fits bits capacity → n ≤ capacity → Fits bits (max 1 n)
@@ -37,6 +42,7 @@ common_legal (commands.Race c writers askers rounds) legal = legal.common
 common_legal (commands.Make c number rows) legal = legal.common
 common_legal (commands.Trace c) legal = legal
 common_legal (commands.Tamper c shifts) legal = legal.common
+common_legal (commands.Tree c low high) legal = legal.common
 
 pub task_legal : (command : Command) (w : Widths) (rows : List Row) → IsLegal command → AreWidthsIn command w → All (Holds w) rows
     → (let c = common_in command in length rows ≤ c.capacity) → IsSetting w (task_over command rows).setting
@@ -46,3 +52,16 @@ task_legal (commands.Race c writers askers rounds) w rows legal of held few = is
 task_legal (commands.Make c number count) w rows legal of held few = is_setting c w rows legal.common of held few
 task_legal (commands.Trace c) w rows legal of held few = is_setting c w rows legal of held few
 task_legal (commands.Tamper c shifts) w rows legal of held few = is_setting c w rows legal.common of held few
+task_legal (commands.Tree c low high) w rows legal of held few = is_setting c w rows legal.common of held few
+
+-- a count with one predicate
+single_count : (a : Aggregate) (n : ℕ) → (is_count a && eqb n 1) ≡ true → (n ≡ 1) × (a ≡ Count)
+single_count Count n e = (eqb-true n 1 e, refl)
+single_count Sum n e = absurd cc
+
+pub range_legal : (c : Common) (low high : ℕ) (w : Widths) (rows : List Row) → IsTree c low high → AreWidthsOf c.schema w → All (Holds w) rows
+    → length rows ≤ c.capacity → IsRange w (setting_of c rows) low high
+range_legal c low high w rows legal of held few =
+    let q = query_in (setting_of c rows) in
+    let one = single_count q.aggregate q.count (legal.counts 0 no_query (omega (arith, legal.single))) in
+    record { setting = is_setting c w rows legal.common of held few; single = legal.single; one = one.0; count = one.1; order = legal.order }

@@ -1,5 +1,6 @@
 -- What a run says of each status.
-use Rattle.std.proofs.Common.{rules, ◌≡◌, ◌≢◌, ◌⊎◌, inl, inr, ℕ, zero, suc, Bool, true, false, cond, List, refl, sym, ◌∙◌, subst, arith}
+use Rattle.std.proofs.lemmas.Bool.{ltb-true}
+use Rattle.std.proofs.Common.{rules, ◌≡◌, ◌≢◌, ◌<◌, ◌⊎◌, inl, inr, ℕ, zero, suc, Bool, true, false, cond, ltb, length, List, refl, sym, ◌∙◌, subst, arith}
 use Rattle.std.specs.Prelude.{⊤, Option, None, Some, Result, Ok, Err, IfSome, IsErr}
 use Rattle.fault_count.specs.Causes.{Rose}
 use Rattle.row_source.specs.Input.{Reading, Reads, most_bytes}
@@ -7,8 +8,9 @@ use Rattle.row_source.specs.Input.Reading.{Untouched, Whole, Long, Broken}
 use Rattle.row_source.specs.declared.faults.RowFault.{RowFault}
 use Rattle.row_source.specs.declared.faults.RowFault.TheVariants as row
 use Rattle.report_lines.specs.declared.lines.Line.{Line}
+use Rattle.report_lines.specs.declared.lines.Line.TheVariants as lines
 use Rattle.table_schema.specs.declared.rows.Row.{Row}
-use Rattle.schedule_play.specs.History.{Done, opened_in}
+use Rattle.schedule_play.specs.History.{Done, opened_in, pair_at}
 use Rattle.schedule_play.specs.Laws.{AskedInOrder, AskedPlainly, EndsInLines, PlainlyPlayed, asked_lines, pair_of_query}
 use Rattle.schedule_play.specs.Stages.{Stage, played}
 use Rattle.schedule_play.specs.Tasks.{IsSetting, Setting, asking}
@@ -16,12 +18,16 @@ use Rattle.waldo_words.specs.declared.command.Command.{Command}
 use Rattle.waldo_words.specs.declared.command.Command.TheVariants as commands
 use Rattle.waldo_words.specs.declared.faults.WordFault.{WordFault}
 use Rattle.waldo_words.specs.declared.faults.WordFault.TheVariants as faults
-use Rattle.waldo_run.specs.Replies.{Answering, IsRefused, Reply, Suits, after_failed_put, checked_answer, ended, plain_answer, reply_over, reply_to}
-use Rattle.waldo_run.specs.Run.{Asked, AskedIn, HasSchedule, Puts, Refuses, RefusesInput, Replies, Runs, plain_reply}
+use Rattle.waldo_run.specs.Replies.{Answering, Reply, Suits, after_failed_put, checked_answer, ended, plain_answer, range_line, range_reply, reply_over, reply_to, single}
+use Rattle.waldo_run.specs.Run.{Asked, AskedIn, HasSchedule, IsRefusedBy, LacksRows, Puts, Refuses, RefusesInput, Replies, Runs, plain_reply}
 use Rattle.waldo_run.specs.Tasks.{common_in, rows_in, rows_made, setting_of, task_over}
+use Rattle.waldo_run.specs.Trees.{judged_in}
+use Rattle.waldo_run.specs.Works.{IsWork, work_over}
+use Rattle.waldo_run.specs.Works.Work.{Steps}
 use Rattle.waldo_run.proofs.Plain.{plain_reply_to}
 use Rattle.waldo_run.proofs.Reported.{long_reported, over_reported, whole_reported}
 use Rattle.waldo_run.proofs.Tracing.{reported_status}
+use Rattle.weighted_check.specs.declared.Altered.{Altered}
 use Rattle.fault_count.specs.Streams.{Change}
 
 kept : (n v : ℕ) → v ≢ 4 → v ≡ after_failed_put n → v ≡ n
@@ -52,37 +58,50 @@ never : (report : List Line) (r : Result Stage ℕ) (t : ℕ) → EndsInLines re
 never report (Ok stage) t e f = cc
 never report (Err u) t e f = e
 
-asking_status : AskedInOrder → (refused : Type 0) (w : _) (s : Setting) (history : List Done) → IsSetting w s → OfRows ⊥ refused (checked_answer history (asking s)).status
+asking_status : AskedInOrder → (refused : Type 0) (w : _) (s : Setting) (history : List Done) → IsSetting w s → OfRows ⊥ refused (checked_answer history (Steps (asking s))).status
 asking_status order refused w s history legal =
     ended_status ⊥ refused (played (opened_in history) (asking s))
     (λ t e. never (asked_lines s (pair_of_query s history) 0 s.queries) (played (opened_in history) (asking s)) t (order w s history legal) e)
 
-task_status : AskedInOrder → (refused : Type 0) (command : Command) (history : List Done) (rows : List Row) (w : _) → IsSetting w (task_over command rows).setting
-    → OfRows (HasSchedule (Ok command)) refused (checked_answer history (task_over command rows)).status
-task_status order refused (commands.Ask c) history rows w legal = asking_status order refused w (setting_of c rows) history legal
-task_status order refused (commands.Replay c schedule) history rows w legal = ended_status ⊤ refused (played (opened_in history) (task_over (commands.Replay c schedule) rows)) (λ t e. tt)
-task_status order refused (commands.Race c writers askers rounds) history rows w legal = asking_status order refused w (setting_of c rows) history legal
-task_status order refused (commands.Make c number count) history rows w legal = asking_status order refused w (setting_of c rows) history legal
-task_status order refused (commands.Trace c) history rows w legal = asking_status order refused w (setting_of c rows) history legal
-task_status order refused (commands.Tamper c shifts) history rows w legal = asking_status order refused w (setting_of c rows) history legal
-
 five_status : (scheduled refused : Type 0) → refused → OfRows scheduled refused 5
 five_status scheduled refused r = record { two = λ e. absurd (omega (arith, e)); three = omega arith; four = omega arith; five = λ _. r }
 
+-- a range
+line_status : (refused : Type 0) (low high : ℕ) (said : Result ℕ Altered) → OfRows ⊥ refused (range_line low high said).status
+line_status refused low high (Ok total) = by_altered ⊥ refused false
+line_status refused low high (Err pair) = by_altered ⊥ refused true
+
+range_status : (s : Setting) (low high : ℕ) (said : Result ℕ Altered) → OfRows ⊥ (length s.rows < high) (range_reply s low high said).status
+range_status s low high said = by (ltb (length s.rows) high) refl
+  where
+    by : (t : Bool) → ltb (length s.rows) high ≡ t → OfRows ⊥ (length s.rows < high) (cond t (single 5 (lines.TooFew high)) (range_line low high said)).status
+    by true e = five_status ⊥ _ (ltb-true (length s.rows) high e)
+    by false e = line_status _ low high said
+
+work_status : AskedInOrder → (command : Command) (history : List Done) (rows : List Row) (w : _) → IsWork w (work_over command rows)
+    → OfRows (HasSchedule (Ok command)) (LacksRows command rows) (checked_answer history (work_over command rows)).status
+work_status order (commands.Ask c) history rows w legal = asking_status order ⊥ w (setting_of c rows) history legal
+work_status order (commands.Replay c schedule) history rows w legal = ended_status ⊤ ⊥ (played (opened_in history) (task_over (commands.Replay c schedule) rows)) (λ t e. tt)
+work_status order (commands.Race c writers askers rounds) history rows w legal = asking_status order ⊥ w (setting_of c rows) history legal
+work_status order (commands.Make c number count) history rows w legal = asking_status order ⊥ w (setting_of c rows) history legal
+work_status order (commands.Trace c) history rows w legal = asking_status order ⊥ w (setting_of c rows) history legal
+work_status order (commands.Tamper c shifts) history rows w legal = asking_status order ⊥ w (setting_of c rows) history legal
+work_status order (commands.Tree c low high) history rows w legal = range_status (setting_of c rows) low high (judged_in (setting_of c rows) (pair_at history 0))
+
 rows_status : AskedInOrder → (unaltered : ℕ → Type 0) (command : Command) (history : List Done) (rows : Result (List Row) RowFault) → AskedIn unaltered command history rows
-    → OfRows (HasSchedule (Ok command)) (IsRefused rows) (reply_over (checked_answer history) command rows).status
+    → OfRows (HasSchedule (Ok command)) (IsRefusedBy command rows) (reply_over (checked_answer history) command rows).status
 rows_status order unaltered command history (Ok rows) asked =
-    subst (OfRows (HasSchedule (Ok command)) ⊥) (sym (reported_status command rows (checked_answer history (task_over command rows))))
-    (task_status order ⊥ command history rows asked.widths asked.legal)
+    subst (OfRows (HasSchedule (Ok command)) (LacksRows command rows)) (sym (reported_status command rows (checked_answer history (work_over command rows))))
+    (work_status order command history rows asked.widths asked.legal)
 rows_status order unaltered command history (Err row.Header) asked = five_status _ _ (λ e. cc)
 rows_status order unaltered command history (Err (row.BadRecord number why)) asked = five_status _ _ (λ e. cc)
 rows_status order unaltered command history (Err (row.TooMany capacity)) asked = five_status _ _ (λ e. cc)
 rows_status order unaltered command history (Err row.Memory) asked =
     record { two = λ e. absurd (omega (arith, e)); three = omega arith; four = omega arith; five = λ e. absurd (omega (arith, e)) }
 
--- an input without rows
+-- an input without rows, or with too few
 abbrev Faulty : Command → Reading → Type 0
-Faulty command Untouched = ⊥
+Faulty command Untouched = LacksRows command (rows_made command)
 Faulty command (Whole bytes) = RefusesInput command bytes
 Faulty command Long = ⊤
 Faulty command Broken = ⊥
@@ -124,19 +143,29 @@ refused_says fault reading status which = record {
   five = λ e. absurd (elim which [ inl p ↦ omega (arith, e, p) | inr p ↦ omega (arith, e, p) ]);
 }
 
-faulty_reported : (command : Command) (reading : Reading) (source : Change) (reported : List ℕ)
+-- rows that are made are never too few
+none_lacking : (command : Command) → Suits (Ok command) Untouched → LacksRows command (rows_made command) → ⊥
+none_lacking (commands.Ask c) suits f = f
+none_lacking (commands.Replay c schedule) suits f = f
+none_lacking (commands.Race c writers askers rounds) suits f = f
+none_lacking (commands.Make c number count) suits f = f
+none_lacking (commands.Trace c) suits f = f
+none_lacking (commands.Tamper c shifts) suits f = f
+none_lacking (commands.Tree c low high) suits f = suits refl
+
+faulty_reported : (command : Command) (reading : Reading) (source : Change) (reported : List ℕ) → Suits (Ok command) reading
     → Reads most_bytes reading source → Faulty command reading → source.old ≡ Some reported → Refuses (Ok command) reported
-faulty_reported command Untouched source reported reads f e = absurd f
-faulty_reported command (Whole bytes) source reported reads f e = inr (subst (λ bs. RefusesInput command bs) (whole_reported source.old source.new bytes reported reads.1 reads.2 e) f)
-faulty_reported command Long source reported reads f e = inl (omega (arith, long_reported source.old source.new reads.0 reported reads.2 e, reads.1))
-faulty_reported command Broken source reported reads f e = absurd f
+faulty_reported command Untouched source reported suits reads f e = absurd (none_lacking command suits f)
+faulty_reported command (Whole bytes) source reported suits reads f e = inr (subst (λ bs. RefusesInput command bs) (whole_reported source.old source.new bytes reported reads.1 reads.2 e) f)
+faulty_reported command Long source reported suits reads f e = inl (omega (arith, long_reported source.old source.new reads.0 reported reads.2 e, reads.1))
+faulty_reported command Broken source reported suits reads f e = absurd f
 
 says : AskedInOrder → (unaltered : ℕ → Type 0) (command : Result Command WordFault) (history : List Done) (reading : Reading) → Suits command reading → Asked unaltered command history reading
     → Says command reading (reply_to (checked_answer history) command reading).status
 says order unaltered (Err fault) history reading suits asked = refused_says fault reading _ (refusal_status (checked_answer history) fault _ refl)
 says order unaltered (Ok command) history reading suits asked =
     let k = known order unaltered command history reading asked in
-    record { two = λ e. inr (k.two e); three = k.three; four = k.four; five = λ e source reported reads is. faulty_reported command reading source reported reads (k.five e) is }
+    record { two = λ e. inr (k.two e); three = k.three; four = k.four; five = λ e source reported reads is. faulty_reported command reading source reported suits reads (k.five e) is }
 
 module _ (order : AskedInOrder) (command : Result Command WordFault) (source sink : Change) (carried : List Done → Type 0) (unaltered : ℕ → Type 0) (status : ℕ)
     (run : Runs command source carried unaltered sink status) where

@@ -18,7 +18,7 @@ use Rattle.waldo_run.specs.Replies.{Reply, Suits}
 use Rattle.waldo_run.specs.Tasks.{AreWidthsIn, common_in, rows_in, rows_made, setting_of}
 
 -- The sizes of a command's queries over its rows: of each query those over all rows, or, in a schedule, those of each answer over the rows
--- that its actor agreed on. (A race has steps of its own.)
+-- that its actor agreed on. (A race has steps of its own. A range of places is no query over all rows: its servers read nodes of trees.)
 abbrev pub sizes_by : Command → Widths → List Row → List Sizes
 sizes_by (commands.Ask common) w rows = asked_sizes w (length rows) common.queries
 sizes_by (commands.Replay common schedule) w rows = sizes_in w (scheduled (setting_of common rows) schedule)
@@ -26,6 +26,7 @@ sizes_by (commands.Race common writers askers rounds) w rows = []
 sizes_by (commands.Make common number count) w rows = asked_sizes w (length rows) common.queries
 sizes_by (commands.Trace common) w rows = asked_sizes w (length rows) common.queries
 sizes_by (commands.Tamper common shifts) w rows = asked_sizes w (length rows) common.queries
+sizes_by (commands.Tree common low high) w rows = []
 
 -- What the trace of a run grew by, where `grew` is said of it: over rows, the traces of these sizes
 abbrev pub SeesOver : Command → (AllSeen → Type 0) → List Row → Type 0

@@ -7,4 +7,6 @@ pub mod Run
 pub mod Tampered
 pub mod Tasks
 pub mod Traces
+pub mod Trees
 pub mod Words
+pub mod Works

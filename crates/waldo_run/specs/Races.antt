@@ -41,6 +41,7 @@ IsRacing (commands.Replay common schedule) = ⊥
 IsRacing (commands.Make common number count) = ⊥
 IsRacing (commands.Trace common) = ⊥
 IsRacing (commands.Tamper common shifts) = ⊥
+IsRacing (commands.Tree common low high) = ⊥
 
 -- who takes part in a race, as its words say
 abbrev pub crew_of : Common → ℕ → ℕ → ℕ → Crew
@@ -93,6 +94,7 @@ RacedBy (Ok (commands.Replay common schedule)) reading sent reply = ⊥
 RacedBy (Ok (commands.Make common number count)) reading sent reply = ⊥
 RacedBy (Ok (commands.Trace common)) reading sent reply = ⊥
 RacedBy (Ok (commands.Tamper common shifts)) reading sent reply = ⊥
+RacedBy (Ok (commands.Tree common low high)) reading sent reply = ⊥
 
 -- The source was met in one of its ways, these messages went over the wires, and the reply is one that a race may come to with them.
 pub record RaceReplies (command : Result Command WordFault) (source : Change) (carried : List (List Message) → Type 0)

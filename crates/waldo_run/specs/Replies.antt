@@ -1,5 +1,5 @@
 -- The reply to each command and each way in which the input was met.
-use Rattle.std.specs.Prelude.{◌≡◌, ◌≢◌, ℕ, zero, suc, if◌then◌else◌, MatchBool, Result, Ok, Err, List, [], ◌∷◌, length, map}
+use Rattle.std.specs.Prelude.{◌≡◌, ◌≢◌, ℕ, zero, suc, if◌then◌else◌, nat_lt, MatchBool, Result, Ok, Err, List, [], ◌∷◌, length, map}
 use Rattle.query_plan.specs.Query.{shaped}
 use Rattle.query_plan.specs.declared.query.Query.{Query}
 use Rattle.row_source.specs.Input.{Reading}
@@ -11,10 +11,12 @@ use Rattle.row_source.specs.declared.input.ReadFault.TheVariants as input
 use Rattle.report_lines.specs.declared.lines.Line.{Line}
 use Rattle.report_lines.specs.declared.lines.Line.TheVariants as lines
 use Rattle.table_schema.specs.declared.rows.Row.{Row}
-use Rattle.schedule_play.specs.History.{Done, opened_in}
+use Rattle.row_tree.specs.Cover.{cover_of}
+use Rattle.weighted_check.specs.declared.Altered.{Altered}
+use Rattle.schedule_play.specs.History.{Done, opened_in, pair_at}
 use Rattle.schedule_play.specs.Plain.{plain_lines, plainly}
 use Rattle.schedule_play.specs.Stages.{Stage, played}
-use Rattle.schedule_play.specs.Tasks.{Task}
+use Rattle.schedule_play.specs.Tasks.{Setting, Task}
 use Rattle.schedule_play.specs.declared.play.PlayFault.{PlayFault}
 use Rattle.schedule_play.specs.declared.play.PlayFault.TheVariants.{NotAllowed, Memory}
 use Rattle.schedule_play.specs.declared.play.Played.{Played}
@@ -24,8 +26,11 @@ use Rattle.waldo_words.specs.declared.command.Command.{Command}
 use Rattle.waldo_words.specs.declared.command.Command.TheVariants as commands
 use Rattle.waldo_words.specs.declared.faults.WordFault.{WordFault}
 use Rattle.waldo_words.specs.declared.faults.WordFault.TheVariants as words
-use Rattle.waldo_run.specs.Tasks.{bits_of, common_in, reads_input, rows_in, rows_made, task_over}
+use Rattle.waldo_run.specs.Tasks.{bits_of, common_in, reads_input, rows_in, rows_made}
 use Rattle.waldo_run.specs.Traces.{noted_over, traced}
+use Rattle.waldo_run.specs.Trees.{judged_in, plain_count}
+use Rattle.waldo_run.specs.Works.{Work, work_over}
+use Rattle.waldo_run.specs.Works.Work.{Steps, Range}
 
 -- a status and a report
 pub record Reply : Type 0 where
@@ -69,12 +74,21 @@ IsReplyOf (Ok p) reply = reply ≡ record { status = if p.altered then 7 else 0;
 IsReplyOf (Err (NotAllowed t)) reply = reply ≡ single 2 (lines.BadStep t)
 IsReplyOf (Err Memory) reply = ⊥
 
--- how a task is answered: by what its answers opened, or plainly
+-- how a command's work is answered: by what its answers opened, or plainly
 abbrev pub Answering : Type 0
-Answering = Task → Reply
+Answering = Work → Reply
+
+-- the line of a range, by what the check says of the pair that was opened; or that there are fewer rows than it asks for
+abbrev pub range_line : ℕ → ℕ → Result ℕ Altered → Reply
+range_line low high (Ok total) = single 0 (lines.Tree low high total (length (cover_of low high)))
+range_line low high (Err pair) = single 7 (lines.TreeAltered pair.total pair.weighted)
+
+abbrev pub range_reply : Setting → ℕ → ℕ → Result ℕ Altered → Reply
+range_reply s low high said = if nat_lt (length s.rows) high then single 5 (lines.TooFew high) else range_line low high said
 
 abbrev pub checked_answer : List Done → Answering
-checked_answer history task = ended (played (opened_in history) task)
+checked_answer history (Steps task) = ended (played (opened_in history) task)
+checked_answer history (Range s low high) = range_reply s low high (judged_in s (pair_at history 0))
 
 -- rows that are appended and then asked: the plain answer of each query over all of them; a schedule: the core's replies, with each answer
 -- plain
@@ -82,10 +96,12 @@ abbrev pub plain_in : Style → Task → Reply
 plain_in Queries task = record { status = 0; report = plain_lines task.setting.rows 0 task.setting.queries }
 plain_in Rounds task = ended (played (plainly task.setting) task)
 
+-- of a range, how many of its rows pass
 abbrev pub plain_answer : Answering
-plain_answer task = plain_in task.style task
+plain_answer (Steps task) = plain_in task.style task
+plain_answer (Range s low high) = range_reply s low high (Ok (plain_count s low high))
 
--- the reply to a command's steps, as the command reports it: `trace` has what the servers saw in place of the answers
+-- the reply to a command's work, as the command reports it: `trace` has what the servers saw in place of the answers
 abbrev pub reported : Command → List Row → Reply → Reply
 reported (commands.Trace common) rows reply =
     let seen = map (λ (q : Query). noted_over (bits_of common) (length rows) (shaped q)) common.queries in
@@ -94,14 +110,14 @@ reported command rows reply = reply
 
 -- the reply of a command to its rows
 abbrev pub rows_reply : Answering → Command → List Row → Reply
-rows_reply answer command rows = reported command rows (answer (task_over command rows))
+rows_reply answer command rows = reported command rows (answer (work_over command rows))
 
 -- the same, or the reply to the first fault of its input
 abbrev pub reply_over : Answering → Command → Result (List Row) RowFault → Reply
 reply_over answer command (Err fault) = row_refusal fault
 reply_over answer command (Ok rows) = rows_reply answer command rows
 
--- The reply to the words, over what reading gave, by how a task is answered. The order of refusals is the order of these cases.
+-- The reply to the words, over what reading gave, by how its work is answered. The order of refusals is the order of these cases.
 abbrev pub reply_to : Answering → Result Command WordFault → Reading → Reply
 reply_to answer (Err fault) reading = refusal fault
 reply_to answer (Ok command) Untouched = reply_over answer command (Ok (rows_made command))

@@ -10,26 +10,24 @@ use Rattle.ring128.specs.declared.memory.Memory.{Memory}
 use Rattle.row_source.specs.declared.faults.RowFault.{RowFault}
 use Rattle.table_schema.specs.declared.rows.Row.{Row}
 use Rattle.table_schema.specs.declared.widths.Widths.{Widths}
-use Rattle.schedule_play.specs.History.{AreHonest, Done, HasBroken, HasHistory}
-use Rattle.schedule_play.specs.Plain.{ArePlain}
-use Rattle.schedule_play.specs.Stages.{first_stage}
-use Rattle.schedule_play.specs.Tasks.{IsSetting}
+use Rattle.schedule_play.specs.History.{AreHonest, Done}
 use Rattle.waldo_words.specs.declared.command.Command.{Command}
 use Rattle.waldo_words.specs.declared.command.Command.TheVariants as commands
 use Rattle.waldo_words.specs.declared.faults.WordFault.{WordFault}
 use Rattle.waldo_run.specs.Replies.{Reply, IsRefused, Suits, after_failed_put, checked_answer, plain_answer, reply_over, reply_to}
-use Rattle.waldo_run.specs.Tasks.{AreWidthsIn, common_in, reads_input, rows_in, rows_made, task_over}
+use Rattle.waldo_run.specs.Tasks.{AreWidthsIn, common_in, reads_input, rows_in, rows_made}
+use Rattle.waldo_run.specs.Works.{Begins, IsDone, IsPlainly, IsWork, work_over}
 use Rattle.fault_count.specs.Streams.{Change}
 
--- The steps of a command over its rows, with the messages of each answer and what they opened. An unaltered wire changed no message; and
--- each answer whose messages were not changed opened the plain one, whatever was altered before.
+-- What a command does with its rows: the messages of each answer and what they opened. An unaltered wire changed no message; and each
+-- answer whose messages were not changed opened the plain one, whatever was altered before.
 pub record AskedOver (unaltered : ℕ → Type 0) (command : Command) (history : List Done) (rows : List Row) : Type 0 where
   pub widths : Widths
   pub of : AreWidthsIn command widths
-  pub legal : IsSetting widths (task_over command rows).setting
-  pub done : HasHistory widths (task_over command rows) history
+  pub legal : IsWork widths (work_over command rows)
+  pub done : IsDone widths (work_over command rows) history
   pub honest : AreHonest unaltered history
-  pub plain : ArePlain (task_over command rows).setting (task_over command rows).style first_stage history
+  pub plain : IsPlainly (work_over command rows) history
 
 -- the steps of a command over rows that may have a fault: then no step was done
 abbrev pub AskedIn : (ℕ → Type 0) → Command → List Done → Result (List Row) RowFault → Type 0
@@ -61,7 +59,7 @@ pub record Replies (command : Result Command WordFault) (source : Change) (carri
 pub record BegunOver (command : Command) (history : List Done) (rows : List Row) : Type 0 where
   pub widths : Widths
   pub of : AreWidthsIn command widths
-  pub broken : HasBroken widths (task_over command rows) history
+  pub begun : Begins widths (work_over command rows) history
 
 abbrev pub BegunIn : Command → List Done → Result (List Row) RowFault → Type 0
 BegunIn command history (Err fault) = history ≡ []
@@ -127,9 +125,24 @@ reading_by (Ok command) bytes = if reads_input command then reading_of bytes els
 abbrev pub plain_reply : Result Command WordFault → List ℕ → Reply
 plain_reply command bytes = reply_to plain_answer command (reading_by command bytes)
 
--- an input that the command refuses: too long, or without rows
+-- fewer rows than a command asks for
+abbrev pub LacksRows : Command → List Row → Type 0
+LacksRows (commands.Ask common) rows = ⊥
+LacksRows (commands.Replay common schedule) rows = ⊥
+LacksRows (commands.Race common writers askers rounds) rows = ⊥
+LacksRows (commands.Make common number count) rows = ⊥
+LacksRows (commands.Trace common) rows = ⊥
+LacksRows (commands.Tamper common shifts) rows = ⊥
+LacksRows (commands.Tree common low high) rows = length rows < high
+
+-- an input that gives no rows, or fewer than the command asks for
+abbrev pub IsRefusedBy : Command → Result (List Row) RowFault → Type 0
+IsRefusedBy command (Err fault) = IsRefused (Err fault)
+IsRefusedBy command (Ok rows) = LacksRows command rows
+
+-- an input that the command refuses: too long, without rows, or with fewer than it asks for
 abbrev pub RefusesInput : Command → List ℕ → Type 0
-RefusesInput command bytes = IsRefused (rows_in (common_in command) bytes)
+RefusesInput command bytes = IsRefusedBy command (rows_in (common_in command) bytes)
 
 abbrev pub Refuses : Result Command WordFault → List ℕ → Type 0
 Refuses (Err fault) bytes = ⊥
@@ -149,3 +162,4 @@ HasSchedule (Ok (commands.Race common writers askers rounds)) = ⊥
 HasSchedule (Ok (commands.Make common number count)) = ⊥
 HasSchedule (Ok (commands.Trace common)) = ⊥
 HasSchedule (Ok (commands.Tamper common shifts)) = ⊥
+HasSchedule (Ok (commands.Tree common low high)) = ⊥

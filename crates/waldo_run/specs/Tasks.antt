@@ -20,6 +20,7 @@ common_in (commands.Race common writers askers rounds) = common
 common_in (commands.Make common number rows) = common
 common_in (commands.Trace common) = common
 common_in (commands.Tamper common shifts) = common
+common_in (commands.Tree common low high) = common
 
 -- the bits of the columns
 abbrev pub bits_of : Common → List ℕ
@@ -38,6 +39,7 @@ task_over (commands.Race common writers askers rounds) rows = asking (setting_of
 task_over (commands.Make common number count) rows = asking (setting_of common rows)
 task_over (commands.Trace common) rows = asking (setting_of common rows)
 task_over (commands.Tamper common shifts) rows = asking (setting_of common rows)
+task_over (commands.Tree common low high) rows = asking (setting_of common rows)
 
 -- whether a command reads its rows from the input; else it makes them
 abbrev pub reads_input : Command → Bool
@@ -47,6 +49,7 @@ reads_input (commands.Race common writers askers rounds) = true
 reads_input (commands.Make common number count) = false
 reads_input (commands.Trace common) = true
 reads_input (commands.Tamper common shifts) = true
+reads_input (commands.Tree common low high) = true
 
 -- the rows of an input, at most as many as the capacity, or its first fault
 abbrev pub rows_in : Common → List ℕ → Result (List Row) RowFault
@@ -60,6 +63,7 @@ rows_made (commands.Race common writers askers rounds) = []
 rows_made (commands.Make common number count) = made_rows (bits_of common) number count
 rows_made (commands.Trace common) = []
 rows_made (commands.Tamper common shifts) = []
+rows_made (commands.Tree common low high) = []
 
 -- the widths of a command's columns
 abbrev pub AreWidthsIn : Command → Widths → Type 0

@@ -19,6 +19,7 @@ only_built (Ok (commands.Make common number rows)) = Ok (commands.Make common nu
 only_built (Ok (commands.Trace common)) = Ok (commands.Trace common)
 only_built (Ok (commands.Race common writers askers rounds)) = Err (Word 0)
 only_built (Ok (commands.Tamper common shifts)) = Ok (commands.Tamper common shifts)
+only_built (Ok (commands.Tree common low high)) = Ok (commands.Tree common low high)
 
 -- the words begin with the name of a command that is not built yet
 abbrev pub begin_unbuilt : List (List ℕ) → Bool
@@ -37,3 +38,4 @@ IsBuilt (commands.Make common number rows) = ⊤
 IsBuilt (commands.Trace common) = ⊤
 IsBuilt (commands.Race common writers askers rounds) = ⊥
 IsBuilt (commands.Tamper common shifts) = ⊤
+IsBuilt (commands.Tree common low high) = ⊤

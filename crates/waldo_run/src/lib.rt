@@ -28,6 +28,7 @@ mod tamper;
 mod task;
 mod top;
 mod trace;
+mod tree;
 mod words;
 
 pub use race_play::{Gate, OpenGate, Places, Point, Written, ask_round, write_rows};

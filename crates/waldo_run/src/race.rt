@@ -155,7 +155,8 @@ fn race_command<R: Threads + Wait + Sync, S: Source, W: Wire + Send, G: Gate + S
         | Command::Replay { .. }
         | Command::Make { .. }
         | Command::Trace(_)
-        | Command::Tamper { .. } => unreachable!(),
+        | Command::Tamper { .. }
+        | Command::Tree { .. } => unreachable!(),
     }
 }
 

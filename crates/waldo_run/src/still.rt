@@ -41,7 +41,8 @@ fn common_of(command: &Command) -> &Common
         | Command::Race { common, .. }
         | Command::Make { common, .. }
         | Command::Trace(common)
-        | Command::Tamper { common, .. } => common,
+        | Command::Tamper { common, .. }
+        | Command::Tree { common, .. } => common,
     }
 }
 

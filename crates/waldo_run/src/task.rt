@@ -12,12 +12,14 @@ ghost use Rattle.waldo_run.specs.Replies.{IsReplyOf, checked_answer, reported, r
 ghost use Rattle.waldo_run.specs.Run.{AskedOver, BegunOver};
 ghost use Rattle.waldo_run.specs.Tasks.{AreWidthsIn, common_in, setting_of, task_over};
 ghost use Rattle.waldo_run.specs.Words.{IsBuilt};
+ghost use Rattle.waldo_run.specs.Works.{PlaysSteps};
 ghost use Rattle.waldo_words.specs.Legal.{IsLegal};
 
 use crate::reply::{Reply, single_line};
 use crate::seen::all_noted;
 use crate::tamper::tamper;
 use crate::trace::traced;
+use crate::tree::answer_range;
 use report_lines::Line;
 use ring128::Memory;
 use schedule_play::{PlayFault, Played, Setting, ask, replay};
@@ -66,6 +68,7 @@ fn play<R: Threads + Sync, W: Wire>(
 ) -> Result<Played, PlayFault>
     requires legal { IsLegal command.now }
     requires built { IsBuilt command.now }
+    requires steps { PlaysSteps command.now rows.now }
     requires setting { IsSetting widths.now (task_over command.now rows.now).setting }
     requires wires { length wires.old.items ≡ 16 }
     ensures wires { length wires.new.items ≡ 16 }
@@ -100,7 +103,7 @@ fn play<R: Threads + Sync, W: Wire>(
                 trace,
             )
         }
-        Command::Race { .. } => unreachable!(),
+        Command::Race { .. } | Command::Tree { .. } => unreachable!(),
     }
 }
 
@@ -128,12 +131,44 @@ fn reported(
         | Command::Replay { .. }
         | Command::Race { .. }
         | Command::Make { .. }
-        | Command::Tamper { .. } => Ok(reply),
+        | Command::Tamper { .. }
+        | Command::Tree { .. } => Ok(reply),
     }
 }
 
-/// The reply of a command to its rows: that of its steps, whose answers go over the wires. The trace grows by what the servers see of
-/// them. The only error is out of memory; the first messages of the steps may then have been carried.
+// The reply of a command that plays its steps alone.
+fn answer_steps<R: Threads + Sync, W: Wire>(
+    rt: &R,
+    alloc: Global,
+    command: &Command,
+    widths: &Widths,
+    rows: &[Row],
+    wires: &mut Vec<W>,
+    trace: &mut Trace,
+) -> Result<Reply, Memory>
+    requires legal { IsLegal command.now }
+    requires built { IsBuilt command.now }
+    requires steps { PlaysSteps command.now rows.now }
+    requires widths { AreWidthsIn command.now widths.now }
+    requires held { All (Holds widths.now) rows.now }
+    requires few { let common = common_in command.now in length rows.now ≤ common.capacity }
+    requires wires { length wires.old.items ≡ 16 }
+    ensures wires { length wires.new.items ≡ 16 }
+    ensures asked { (history : List Done) × CarriedBy W.sight (Ok command.now) wires.old.items wires.new.items history
+        × OnErr result (BegunOver command.now history rows.now)
+        × IfOk result (λ reply.
+        AskedOver (UnalteredBy W.sight (Ok command.now) wires.old.items wires.new.items) command.now history rows.now
+        × (reply ≡ rows_reply (checked_answer history) command.now rows.now)
+        × (((actor : ℕ) → UnalteredBy W.sight (Ok command.now) wires.old.items wires.new.items actor) → reply.status ≢ 7)) }
+    ensures trace { GrewBy trace.old trace.new (traces_of (sizes_by command.now widths.now rows.now)) result }
+{
+    let played = play(rt, alloc, command, widths, rows, wires, trace);
+    let reply = reply_of(alloc, played)?;
+    reported(alloc, command, widths, rows, reply)
+}
+
+/// The reply of a command to its rows: that of its steps, or of its query over a range of places. Answers go over the wires. The trace
+/// grows by what the servers see of steps. The only error is out of memory; the first messages may then have been carried.
 pub(crate) fn answer_rows<R: Threads + Sync, W: Wire>(
     rt: &R,
     alloc: Global,
@@ -158,7 +193,11 @@ pub(crate) fn answer_rows<R: Threads + Sync, W: Wire>(
         × (((actor : ℕ) → UnalteredBy W.sight (Ok command.now) wires.old.items wires.new.items actor) → reply.status ≢ 7)) }
     ensures trace { GrewBy trace.old trace.new (traces_of (sizes_by command.now widths.now rows.now)) result }
 {
-    let played = play(rt, alloc, command, widths, rows, wires, trace);
-    let reply = reply_of(alloc, played)?;
-    reported(alloc, command, widths, rows, reply)
+    match command {
+        Command::Tree { common, low, high } => {
+            let setting = setting(common, widths, rows);
+            answer_range(rt, alloc, &setting, *low, *high, wires)
+        }
+        _ => answer_steps(rt, alloc, command, widths, rows, wires, trace),
+    }
 }

@@ -49,7 +49,8 @@ fn only_built(command: Command) -> Result<Command, WordFault>
         | Command::Replay { .. }
         | Command::Make { .. }
         | Command::Trace(_)
-        | Command::Tamper { .. } => Ok(command),
+        | Command::Tamper { .. }
+        | Command::Tree { .. } => Ok(command),
         Command::Race { .. } => Err(WordFault::Word { index: 0 }),
     }
 }

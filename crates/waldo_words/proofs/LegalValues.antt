@@ -1,5 +1,5 @@
 -- What was read is legal.
-use Rattle.std.proofs.Common.{◌≡◌, refl, subst, ℕ, ◌<◌, ◌≤◌, Bool, true, false, List, [], ◌∷◌, length, Option, Some, None, Result, Ok, Err, IfOk, IfSome, All, unwrap_or, arith, length-append}
+use Rattle.std.proofs.Common.{◌≡◌, refl, subst, ℕ, ◌<◌, ◌≤◌, Bool, true, false, List, [], ◌∷◌, length, Option, Some, None, Result, Ok, Err, IfOk, IfSome, All, nat_le, unwrap_or, arith, length-append}
 use Rattle.std.proofs.lemmas.List.Elements.{All-nil, All-push}
 use Rattle.query_plan.specs.declared.query.Query.{Query}
 use Rattle.table_schema.specs.Widths.{Fits, largest_in}
@@ -7,14 +7,14 @@ use Rattle.table_schema.specs.declared.schema.Column.{Column}
 use Rattle.text_reading.specs.Reading.{◌>>=◌, Reads, guard}
 use Rattle.std.specs.Prelude.{codes}
 use Rattle.waldo_words.specs.Legal.{IsCommon, IsFew, IsFound, IsLegal, IsSchedule, IsShift, IsValue, SuitsColumns}
-use Rattle.waldo_words.specs.Options.{most_times, nothing_found, option_of, times_found, with_value}
+use Rattle.waldo_words.specs.Options.{may_ask, most_times, nothing_found, option_of, times_found, with_value}
 use Rattle.waldo_words.specs.Values.{bits_in}
-use Rattle.waldo_words.specs.Words.{command_with, common_of, finished, is_some_of, made, replayed, tampered}
+use Rattle.waldo_words.specs.Words.{command_with, common_of, finished, is_some_of, made, ranged, replayed, tampered, to_word}
 use Rattle.waldo_words.specs.declared.command.Common.{Common}
 use Rattle.waldo_words.specs.declared.command.Command.{Command}
 use Rattle.waldo_words.specs.declared.command.Command.TheVariants as commands
 use Rattle.waldo_words.specs.declared.faults.WordFault.{WordFault}
-use Rattle.waldo_words.specs.declared.faults.WordFault.TheVariants.{Missing}
+use Rattle.waldo_words.specs.declared.faults.WordFault.TheVariants.{Missing, Word}
 use Rattle.waldo_words.specs.declared.found.Found.{Found}
 use Rattle.waldo_words.specs.declared.names.CommandName.{CommandName}
 use Rattle.waldo_words.specs.declared.names.CommandName.TheVariants as name
@@ -31,6 +31,7 @@ none_found command columns = record {
   queries = omega arith;
   places = All-nil (λ (q : Query). length q.predicates ≡ 4);
   suits = All-nil (SuitsColumns columns);
+  asked = All-nil (λ (q : Query). may_ask command q ≡ true);
   capacity = tt;
   workers = tt;
   schedule = tt;
@@ -40,15 +41,17 @@ none_found command columns = record {
   rows = tt;
   shifts = omega arith;
   moved = All-nil IsShift;
+  to = tt;
 }
 
 -- one value more, of an option that may stand once more
 pub one_more : (command : CommandName) (columns : List Column) (found : Found) (v : Value) → IsFound command columns found
-    → times_found found (option_of v) < most_times (option_of v) command → IsValue columns v → IsFound command columns (with_value found v)
+    → times_found found (option_of v) < most_times (option_of v) command → IsValue command columns v → IsFound command columns (with_value found v)
 one_more command columns found (value.Query q) h room legal = record {
   queries = omega (arith, room, length-append found.queries (q ∷ []));
-  places = All-push (λ (q : Query). length q.predicates ≡ 4) found.queries q h.places legal.0;
-  suits = All-push (SuitsColumns columns) found.queries q h.suits legal.1;
+  places = All-push (λ (q : Query). length q.predicates ≡ 4) found.queries q h.places legal.places;
+  suits = All-push (SuitsColumns columns) found.queries q h.suits legal.suits;
+  asked = All-push (λ (q : Query). may_ask command q ≡ true) found.queries q h.asked legal.asked;
   capacity = h.capacity;
   workers = h.workers;
   schedule = h.schedule;
@@ -58,11 +61,13 @@ one_more command columns found (value.Query q) h room legal = record {
   rows = h.rows;
   shifts = h.shifts;
   moved = h.moved;
+  to = h.to;
 }
 one_more command columns found (value.Seed s) h room legal = record {
   queries = h.queries;
   places = h.places;
   suits = h.suits;
+  asked = h.asked;
   capacity = h.capacity;
   workers = h.workers;
   schedule = h.schedule;
@@ -72,11 +77,13 @@ one_more command columns found (value.Seed s) h room legal = record {
   rows = h.rows;
   shifts = h.shifts;
   moved = h.moved;
+  to = h.to;
 }
 one_more command columns found (value.Capacity n) h room legal = record {
   queries = h.queries;
   places = h.places;
   suits = h.suits;
+  asked = h.asked;
   capacity = legal;
   workers = h.workers;
   schedule = h.schedule;
@@ -86,11 +93,13 @@ one_more command columns found (value.Capacity n) h room legal = record {
   rows = h.rows;
   shifts = h.shifts;
   moved = h.moved;
+  to = h.to;
 }
 one_more command columns found (value.Workers n) h room legal = record {
   queries = h.queries;
   places = h.places;
   suits = h.suits;
+  asked = h.asked;
   capacity = h.capacity;
   workers = legal;
   schedule = h.schedule;
@@ -100,11 +109,13 @@ one_more command columns found (value.Workers n) h room legal = record {
   rows = h.rows;
   shifts = h.shifts;
   moved = h.moved;
+  to = h.to;
 }
 one_more command columns found (value.Schedule s) h room legal = record {
   queries = h.queries;
   places = h.places;
   suits = h.suits;
+  asked = h.asked;
   capacity = h.capacity;
   workers = h.workers;
   schedule = legal;
@@ -114,11 +125,13 @@ one_more command columns found (value.Schedule s) h room legal = record {
   rows = h.rows;
   shifts = h.shifts;
   moved = h.moved;
+  to = h.to;
 }
 one_more command columns found (value.Writers n) h room legal = record {
   queries = h.queries;
   places = h.places;
   suits = h.suits;
+  asked = h.asked;
   capacity = h.capacity;
   workers = h.workers;
   schedule = h.schedule;
@@ -128,11 +141,13 @@ one_more command columns found (value.Writers n) h room legal = record {
   rows = h.rows;
   shifts = h.shifts;
   moved = h.moved;
+  to = h.to;
 }
 one_more command columns found (value.Askers n) h room legal = record {
   queries = h.queries;
   places = h.places;
   suits = h.suits;
+  asked = h.asked;
   capacity = h.capacity;
   workers = h.workers;
   schedule = h.schedule;
@@ -142,11 +157,13 @@ one_more command columns found (value.Askers n) h room legal = record {
   rows = h.rows;
   shifts = h.shifts;
   moved = h.moved;
+  to = h.to;
 }
 one_more command columns found (value.Rounds n) h room legal = record {
   queries = h.queries;
   places = h.places;
   suits = h.suits;
+  asked = h.asked;
   capacity = h.capacity;
   workers = h.workers;
   schedule = h.schedule;
@@ -156,11 +173,13 @@ one_more command columns found (value.Rounds n) h room legal = record {
   rows = h.rows;
   shifts = h.shifts;
   moved = h.moved;
+  to = h.to;
 }
 one_more command columns found (value.Number n) h room legal = record {
   queries = h.queries;
   places = h.places;
   suits = h.suits;
+  asked = h.asked;
   capacity = h.capacity;
   workers = h.workers;
   schedule = h.schedule;
@@ -170,11 +189,13 @@ one_more command columns found (value.Number n) h room legal = record {
   rows = h.rows;
   shifts = h.shifts;
   moved = h.moved;
+  to = h.to;
 }
 one_more command columns found (value.Rows n) h room legal = record {
   queries = h.queries;
   places = h.places;
   suits = h.suits;
+  asked = h.asked;
   capacity = h.capacity;
   workers = h.workers;
   schedule = h.schedule;
@@ -184,11 +205,13 @@ one_more command columns found (value.Rows n) h room legal = record {
   rows = legal;
   shifts = h.shifts;
   moved = h.moved;
+  to = h.to;
 }
 one_more command columns found (value.Shift s) h room legal = record {
   queries = h.queries;
   places = h.places;
   suits = h.suits;
+  asked = h.asked;
   capacity = h.capacity;
   workers = h.workers;
   schedule = h.schedule;
@@ -198,6 +221,39 @@ one_more command columns found (value.Shift s) h room legal = record {
   rows = h.rows;
   shifts = omega (arith, room, length-append found.shifts (s ∷ []));
   moved = All-push IsShift found.shifts s h.moved legal;
+  to = h.to;
+}
+one_more command columns found (value.From n) h room legal = record {
+  queries = h.queries;
+  places = h.places;
+  suits = h.suits;
+  asked = h.asked;
+  capacity = h.capacity;
+  workers = h.workers;
+  schedule = h.schedule;
+  writers = h.writers;
+  askers = h.askers;
+  rounds = h.rounds;
+  rows = h.rows;
+  shifts = h.shifts;
+  moved = h.moved;
+  to = h.to;
+}
+one_more command columns found (value.To n) h room legal = record {
+  queries = h.queries;
+  places = h.places;
+  suits = h.suits;
+  asked = h.asked;
+  capacity = h.capacity;
+  workers = h.workers;
+  schedule = h.schedule;
+  writers = h.writers;
+  askers = h.askers;
+  rounds = h.rounds;
+  rows = h.rows;
+  shifts = h.shifts;
+  moved = h.moved;
+  to = legal;
 }
 
 -- ---- the command
@@ -218,6 +274,7 @@ some_long (x ∷ xs) e = omega arith
 
 most_queries : (command : CommandName) → most_times option.Query command ≤ 16
 most_queries name.Tamper = omega arith
+most_queries name.Tree = omega arith
 most_queries _ = omega arith
 
 common_legal : (command : CommandName) (columns : List Column) (found : Found) → IsFound command columns found
@@ -264,11 +321,23 @@ legal_tampered common (s ∷ ss) c h one few moved e =
     subst IsLegal (is_made (commands.Tamper common (s ∷ ss)) c _ refl e)
     (record { common = h; single = omega (arith, h.some); some = omega arith; few = few; shifts = moved })
 
-legal_with : (command : CommandName) (columns : List Column) (found : Found) (c : Command) → IsFound command columns found
-    → IsCommon (common_of columns found) → command_with command columns found ≡ Ok c → IsLegal c
-legal_with name.Ask columns found c h common e = subst IsLegal (is_made (commands.Ask (common_of columns found)) c _ refl e) common
-legal_with name.Replay columns found c h common e = legal_replayed (common_of columns found) found.schedule c common h.schedule e
-legal_with name.Race columns found c h common e =
+legal_ranged : (words : List (List ℕ)) (common : Common) (from to : Option ℕ) (c : Command) → IsCommon common → length common.queries ≤ 1
+    → All (λ (q : Query). may_ask name.Tree q ≡ true) common.queries → IfSome to (λ n. n ≤ 65536) → ranged words common from to ≡ Ok c → IsLegal c
+legal_ranged words common None to c h one counts few e = absurd cc
+legal_ranged words common (Some low) None c h one counts few e = absurd cc
+legal_ranged words common (Some low) (Some high) c h one counts few e = by (nat_le low high) refl e
+  where
+    by : (t : Bool) → nat_le low high ≡ t → (guard t (Word (to_word 2 words)) >>= λ _. Ok (commands.Tree common low high)) ≡ Ok c → IsLegal c
+    by false p q = absurd cc
+    by true p q =
+        subst IsLegal (is_made (commands.Tree common low high) c _ refl q)
+        (record { common = h; single = omega (arith, one, h.some); counts = counts; order = grind arith; few = few })
+
+legal_with : (words : List (List ℕ)) (command : CommandName) (columns : List Column) (found : Found) (c : Command) → IsFound command columns found
+    → IsCommon (common_of columns found) → command_with words command columns found ≡ Ok c → IsLegal c
+legal_with words name.Ask columns found c h common e = subst IsLegal (is_made (commands.Ask (common_of columns found)) c _ refl e) common
+legal_with words name.Replay columns found c h common e = legal_replayed (common_of columns found) found.schedule c common h.schedule e
+legal_with words name.Race columns found c h common e =
     subst IsLegal (is_made (commands.Race (common_of columns found) (unwrap_or found.writers 2) (unwrap_or found.askers 2) (unwrap_or found.rounds 1)) c _ refl e)
     (record {
       common = common;
@@ -276,22 +345,23 @@ legal_with name.Race columns found c h common e =
       askers = unwrapped IsFew found.askers 2 h.askers two_few;
       rounds = unwrapped IsFew found.rounds 1 h.rounds one_few;
     })
-legal_with name.Make columns found c h common e = legal_made (common_of columns found) found.number found.rows c common h.rows e
-legal_with name.Trace columns found c h common e = subst IsLegal (is_made (commands.Trace (common_of columns found)) c _ refl e) common
-legal_with name.Tamper columns found c h common e = legal_tampered (common_of columns found) found.shifts c common h.queries h.shifts h.moved e
+legal_with words name.Make columns found c h common e = legal_made (common_of columns found) found.number found.rows c common h.rows e
+legal_with words name.Trace columns found c h common e = subst IsLegal (is_made (commands.Trace (common_of columns found)) c _ refl e) common
+legal_with words name.Tamper columns found c h common e = legal_tampered (common_of columns found) found.shifts c common h.queries h.shifts h.moved e
+legal_with words name.Tree columns found c h common e = legal_ranged words (common_of columns found) found.from found.to c common h.queries h.asked h.to e
 
-legal_finished : (command : CommandName) (columns : List Column) (found : Found) (c : Command) → IsFound command columns found
-    → Fits (bits_in columns) (largest_in (bits_in columns)) → finished command columns found ≡ Ok c → IsLegal c
+legal_finished : (words : List (List ℕ)) (command : CommandName) (columns : List Column) (found : Found) (c : Command) → IsFound command columns found
+    → Fits (bits_in columns) (largest_in (bits_in columns)) → finished words command columns found ≡ Ok c → IsLegal c
 unfolding finished
-legal_finished command columns found c h room e = by (is_some_of found.queries) refl e
+legal_finished words command columns found c h room e = by (is_some_of found.queries) refl e
   where
     by : (t : Bool) → is_some_of found.queries ≡ t
-        → (guard t (Missing (codes "--query")) >>= λ _. command_with command columns found) ≡ Ok c → IsLegal c
+        → (guard t (Missing (codes "--query")) >>= λ _. command_with words command columns found) ≡ Ok c → IsLegal c
     by false p q = absurd cc
-    by true p q = legal_with command columns found c h (common_legal command columns found h room p) q
+    by true p q = legal_with words command columns found c h (common_legal command columns found h room p) q
 
 -- the command of options that are legal, where the greatest capacity fits
-pub legal_result : (command : CommandName) (columns : List Column) (found : Found) (r : Result Command WordFault) → IsFound command columns found
-    → Fits (bits_in columns) (largest_in (bits_in columns)) → Reads (λ c. c) r (finished command columns found) → IfOk r IsLegal
-legal_result command columns found (Err why) h room e = tt
-legal_result command columns found (Ok c) h room e = legal_finished command columns found c h room e
+pub legal_result : (words : List (List ℕ)) (command : CommandName) (columns : List Column) (found : Found) (r : Result Command WordFault) → IsFound command columns found
+    → Fits (bits_in columns) (largest_in (bits_in columns)) → Reads (λ c. c) r (finished words command columns found) → IfOk r IsLegal
+legal_result words command columns found (Err why) h room e = tt
+legal_result words command columns found (Ok c) h room e = legal_finished words command columns found c h room e

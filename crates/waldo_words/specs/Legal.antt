@@ -1,17 +1,18 @@
 -- What holds of every command that was read.
-use Rattle.std.specs.Prelude.{◌≡◌, ℕ, ◌<◌, ◌≤◌, List, All, length, IfSome}
+use Rattle.std.specs.Prelude.{◌≡◌, ℕ, ◌<◌, ◌≤◌, true, List, All, length, IfSome}
 use Rattle.query_plan.specs.Query.{AreWidthsOf, Suits}
 use Rattle.query_plan.specs.declared.query.Query.{Query}
 use Rattle.table_schema.specs.Widths.{Fits}
 use Rattle.table_schema.specs.declared.schema.Column.{Column}
 use Rattle.table_schema.specs.declared.widths.Widths.{Widths}
-use Rattle.waldo_words.specs.Options.{most_times, times_found}
+use Rattle.waldo_words.specs.Options.{may_ask, most_times, times_found}
 use Rattle.waldo_words.specs.Values.{bits_in}
 use Rattle.waldo_words.specs.declared.command.Common.{Common}
 use Rattle.waldo_words.specs.declared.command.Command.{Command}
-use Rattle.waldo_words.specs.declared.command.Command.TheVariants.{Ask, Replay, Race, Make, Trace, Tamper}
+use Rattle.waldo_words.specs.declared.command.Command.TheVariants.{Ask, Replay, Race, Make, Trace, Tamper, Tree}
 use Rattle.waldo_words.specs.declared.found.Found.{Found}
 use Rattle.waldo_words.specs.declared.names.CommandName.{CommandName}
+use Rattle.waldo_words.specs.declared.names.CommandName.TheVariants as name
 use Rattle.waldo_words.specs.declared.names.OptionName.TheVariants as option
 use Rattle.waldo_words.specs.declared.progress.Progress.{Progress}
 use Rattle.waldo_words.specs.declared.schedule.Step.{Step}
@@ -81,6 +82,14 @@ pub record IsTamper (c : Common) (words : List ShiftWord) : Type 0 where
   pub few : length words ≤ 16
   pub shifts : All IsShift words
 
+-- one count with one predicate, over a range of places
+pub record IsTree (c : Common) (low high : ℕ) : Type 0 where
+  pub common : IsCommon c
+  pub single : length c.queries ≡ 1
+  pub counts : All (λ (q : Query). may_ask name.Tree q ≡ true) c.queries
+  pub order : low ≤ high
+  pub few : high ≤ 65536
+
 -- what the layers above may rely on
 abbrev pub IsLegal : Command → Type 0
 IsLegal (Ask c) = IsCommon c
@@ -89,28 +98,38 @@ IsLegal (Race c writers askers rounds) = IsRace c writers askers rounds
 IsLegal (Make c number rows) = IsMake c rows
 IsLegal (Trace c) = IsCommon c
 IsLegal (Tamper c shifts) = IsTamper c shifts
+IsLegal (Tree c low high) = IsTree c low high
 
 -- ---- on the way there
 
+-- what holds of a query of a command
+pub record IsQuery (command : CommandName) (columns : List Column) (query : Query) : Type 0 where
+  pub places : length query.predicates ≡ 4
+  pub suits : SuitsColumns columns query
+  pub asked : may_ask command query ≡ true
+
 -- what holds of the value of an option
-abbrev pub IsValue : List Column → Value → Type 0
-IsValue columns (value.Query query) = (length query.predicates ≡ 4) × SuitsColumns columns query
-IsValue columns (value.Seed seed) = Unit {0}
-IsValue columns (value.Capacity capacity) = Fits (bits_in columns) capacity
-IsValue columns (value.Workers workers) = IsFew workers
-IsValue columns (value.Schedule schedule) = IsSchedule schedule
-IsValue columns (value.Writers writers) = IsFew writers
-IsValue columns (value.Askers askers) = IsFew askers
-IsValue columns (value.Rounds rounds) = IsFew rounds
-IsValue columns (value.Number number) = Unit {0}
-IsValue columns (value.Rows rows) = Fits (bits_in columns) rows
-IsValue columns (value.Shift shift) = IsShift shift
+abbrev pub IsValue : CommandName → List Column → Value → Type 0
+IsValue command columns (value.Query query) = IsQuery command columns query
+IsValue command columns (value.Seed seed) = Unit {0}
+IsValue command columns (value.Capacity capacity) = Fits (bits_in columns) capacity
+IsValue command columns (value.Workers workers) = IsFew workers
+IsValue command columns (value.Schedule schedule) = IsSchedule schedule
+IsValue command columns (value.Writers writers) = IsFew writers
+IsValue command columns (value.Askers askers) = IsFew askers
+IsValue command columns (value.Rounds rounds) = IsFew rounds
+IsValue command columns (value.Number number) = Unit {0}
+IsValue command columns (value.Rows rows) = Fits (bits_in columns) rows
+IsValue command columns (value.Shift shift) = IsShift shift
+IsValue command columns (value.From low) = low ≤ 65536
+IsValue command columns (value.To high) = high ≤ 65536
 
 -- what holds of all that the options have said so far
 pub record IsFound (command : CommandName) (columns : List Column) (found : Found) : Type 0 where
   pub queries : length found.queries ≤ most_times option.Query command
   pub places : All (λ (q : Query). length q.predicates ≡ 4) found.queries
   pub suits : All (SuitsColumns columns) found.queries
+  pub asked : All (λ (q : Query). may_ask command q ≡ true) found.queries
   pub capacity : IfSome found.capacity (Fits (bits_in columns))
   pub workers : IfSome found.workers IsFew
   pub schedule : IfSome found.schedule IsSchedule
@@ -120,6 +139,7 @@ pub record IsFound (command : CommandName) (columns : List Column) (found : Foun
   pub rows : IfSome found.rows (Fits (bits_in columns))
   pub shifts : length found.shifts ≤ most_times option.Shift command
   pub moved : All IsShift found.shifts
+  pub to : IfSome found.to (λ n. n ≤ 65536)
 
 -- an option that waits may stand once more
 pub record IsProgress (command : CommandName) (columns : List Column) (progress : Progress) : Type 0 where

@@ -1,12 +1,15 @@
 -- The options: which command has which and how often, what values they take, and what they have said so far.
-use Rattle.std.specs.Prelude.{ℕ, List, [], ◌∷◌, ◌++◌, length, Option, Some, None, option_map, if◌then◌else◌, codes}
+use Rattle.std.specs.Prelude.{ℕ, ◌==◌, ◌&&◌, Bool, true, false, List, [], ◌∷◌, ◌++◌, length, Option, Some, None, option_map, if◌then◌else◌, codes}
 use Rattle.std.specs.Result.{result_ok}
 use Rattle.std.specs.Str.{bytes_eq}
 use Rattle.table_schema.specs.declared.schema.Column.{Column}
+use Rattle.table_schema.specs.declared.shapes.Aggregate.{Aggregate}
+use Rattle.table_schema.specs.declared.shapes.Aggregate.TheVariants.{Count, Sum}
 use Rattle.query_plan.specs.Reading.{query_of}
+use Rattle.query_plan.specs.declared.query.Query.{Query}
 use Rattle.waldo_words.specs.Shifts.{shift_of}
 use Rattle.waldo_words.specs.Steps.{schedule_of}
-use Rattle.waldo_words.specs.Values.{capacity_of, number_within, seed_of}
+use Rattle.waldo_words.specs.Values.{◌>>=◌, capacity_of, number_within, seed_of}
 use Rattle.waldo_words.specs.declared.found.Found.{Found}
 use Rattle.waldo_words.specs.declared.names.CommandName.{CommandName}
 use Rattle.waldo_words.specs.declared.names.CommandName.TheVariants as name
@@ -25,6 +28,7 @@ command_named word =
     else if bytes_eq word (codes "make") then Some name.Make
     else if bytes_eq word (codes "trace") then Some name.Trace
     else if bytes_eq word (codes "tamper") then Some name.Tamper
+    else if bytes_eq word (codes "tree") then Some name.Tree
     else None
 
 unfoldable pub option_named : List ℕ → Option OptionName
@@ -40,11 +44,14 @@ option_named word =
     else if bytes_eq word (codes "--number") then Some option.Number
     else if bytes_eq word (codes "--rows") then Some option.Rows
     else if bytes_eq word (codes "--shift") then Some option.Shift
+    else if bytes_eq word (codes "--from") then Some option.From
+    else if bytes_eq word (codes "--to") then Some option.To
     else None
 
 -- how often an option may stand in a command: not at all where the command hasn't got it
 abbrev pub most_times : OptionName → CommandName → ℕ
 most_times option.Query name.Tamper = 1
+most_times option.Query name.Tree = 1
 most_times option.Query _ = 16
 most_times option.Seed _ = 1
 most_times option.Capacity name.Make = 0
@@ -64,22 +71,41 @@ most_times option.Rows name.Make = 1
 most_times option.Rows _ = 0
 most_times option.Shift name.Tamper = 16
 most_times option.Shift _ = 0
+most_times option.From name.Tree = 1
+most_times option.From _ = 0
+most_times option.To name.Tree = 1
+most_times option.To _ = 0
 
 -- ---- values
 
--- the value that a text is for an option, over the columns of the table
-abbrev pub value_of : List Column → OptionName → List ℕ → Option Value
-value_of columns option.Query text = option_map value.Query (result_ok (query_of columns text))
-value_of columns option.Seed text = option_map value.Seed (seed_of text)
-value_of columns option.Capacity text = option_map value.Capacity (capacity_of columns text)
-value_of columns option.Workers text = option_map value.Workers (number_within 1 16 text)
-value_of columns option.Schedule text = option_map value.Schedule (schedule_of text)
-value_of columns option.Writers text = option_map value.Writers (number_within 1 16 text)
-value_of columns option.Askers text = option_map value.Askers (number_within 1 16 text)
-value_of columns option.Rounds text = option_map value.Rounds (number_within 1 16 text)
-value_of columns option.Number text = option_map value.Number (number_within 0 4294967295 text)
-value_of columns option.Rows text = option_map value.Rows (capacity_of columns text)
-value_of columns option.Shift text = option_map value.Shift (shift_of text)
+abbrev pub is_count : Aggregate → Bool
+is_count Count = true
+is_count Sum = false
+
+-- whether a command asks such a query: `tree` a count with one predicate alone
+abbrev pub may_ask : CommandName → Query → Bool
+may_ask name.Tree query = is_count query.aggregate && (query.count == 1)
+may_ask _ query = true
+
+-- the query of a text, where the command may ask it
+unfoldable pub query_for : CommandName → List Column → List ℕ → Option Query
+query_for command columns text = result_ok (query_of columns text) >>= λ query. if may_ask command query then Some query else None
+
+-- the value that a text is for an option of a command, over the columns of the table
+abbrev pub value_of : CommandName → List Column → OptionName → List ℕ → Option Value
+value_of command columns option.Query text = option_map value.Query (query_for command columns text)
+value_of command columns option.Seed text = option_map value.Seed (seed_of text)
+value_of command columns option.Capacity text = option_map value.Capacity (capacity_of columns text)
+value_of command columns option.Workers text = option_map value.Workers (number_within 1 16 text)
+value_of command columns option.Schedule text = option_map value.Schedule (schedule_of text)
+value_of command columns option.Writers text = option_map value.Writers (number_within 1 16 text)
+value_of command columns option.Askers text = option_map value.Askers (number_within 1 16 text)
+value_of command columns option.Rounds text = option_map value.Rounds (number_within 1 16 text)
+value_of command columns option.Number text = option_map value.Number (number_within 0 4294967295 text)
+value_of command columns option.Rows text = option_map value.Rows (capacity_of columns text)
+value_of command columns option.Shift text = option_map value.Shift (shift_of text)
+value_of command columns option.From text = option_map value.From (number_within 0 65536 text)
+value_of command columns option.To text = option_map value.To (number_within 0 65536 text)
 
 -- the option whose value it is
 abbrev pub option_of : Value → OptionName
@@ -94,6 +120,8 @@ option_of (value.Rounds rounds) = option.Rounds
 option_of (value.Number number) = option.Number
 option_of (value.Rows rows) = option.Rows
 option_of (value.Shift shift) = option.Shift
+option_of (value.From low) = option.From
+option_of (value.To high) = option.To
 
 -- ---- what the options have said so far
 
@@ -110,6 +138,8 @@ nothing_found = record {
   number = None;
   rows = None;
   shifts = [];
+  from = None;
+  to = None;
 }
 
 -- with one value more
@@ -125,6 +155,8 @@ with_value found (value.Rounds rounds) = record found { rounds = Some rounds }
 with_value found (value.Number number) = record found { number = Some number }
 with_value found (value.Rows rows) = record found { rows = Some rows }
 with_value found (value.Shift shift) = record found { shifts = found.shifts ++ shift ∷ [] }
+with_value found (value.From low) = record found { from = Some low }
+with_value found (value.To high) = record found { to = Some high }
 
 -- one where there is a value
 abbrev pub count_of : {A : Type 0} → Option A → ℕ
@@ -144,3 +176,5 @@ times_found found option.Rounds = count_of found.rounds
 times_found found option.Number = count_of found.number
 times_found found option.Rows = count_of found.rows
 times_found found option.Shift = length found.shifts
+times_found found option.From = count_of found.from
+times_found found option.To = count_of found.to

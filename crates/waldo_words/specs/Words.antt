@@ -1,5 +1,5 @@
 -- What the command words say.
-use Rattle.std.specs.Prelude.{ℕ, ◌-◌, ◌+◌, ◌==◌, not, Bool, true, false, List, [], ◌∷◌, Option, Some, None, Result, Ok, Err, nat_lt, unwrap_or, codes}
+use Rattle.std.specs.Prelude.{ℕ, ◌-◌, ◌+◌, ◌==◌, not, Bool, true, false, List, [], ◌∷◌, Option, Some, None, Result, Ok, Err, if◌then◌else◌, bytes_eq, nat_le, nat_lt, unwrap_or, codes}
 use Rattle.std.specs.Option.{ok_or}
 use Rattle.table_schema.specs.Schema.{schema_of}
 use Rattle.table_schema.specs.Widths.{largest_in}
@@ -27,22 +27,22 @@ use Rattle.waldo_words.specs.declared.shifts.ShiftWord.{ShiftWord}
 -- ---- one word
 
 -- the options found with a text as the value of one more, if it is one
-abbrev pub with_text : List Column → Found → OptionName → List ℕ → Result Progress ValueFault
-with_text columns found option text =
-    ok_or (value_of columns option text) Refused >>= λ value.
+abbrev pub with_text : CommandName → List Column → Found → OptionName → List ℕ → Result Progress ValueFault
+with_text command columns found option text =
+    ok_or (value_of command columns option text) Refused >>= λ value.
     Ok (record { found = with_value found value; waiting = None })
 
 -- an option that waits for its value, or has it in the same word
-abbrev pub with_option : List Column → Found → OptionName → Option (List ℕ) → Result Progress ValueFault
-with_option columns found option None = Ok (record { found = found; waiting = Some option })
-with_option columns found option (Some text) = with_text columns found option text
+abbrev pub with_option : CommandName → List Column → Found → OptionName → Option (List ℕ) → Result Progress ValueFault
+with_option command columns found option None = Ok (record { found = found; waiting = Some option })
+with_option command columns found option (Some text) = with_text command columns found option text
 
 -- a word in an option's place: what stands before its first `=` is an option that may stand once more
 unfoldable pub after_option : CommandName → List Column → Found → List ℕ → Result Progress ValueFault
 after_option command columns found word =
     ok_or (option_named (cut_at 61 word).0) Refused >>= λ option.
     guard (nat_lt (times_found found option) (most_times option command)) Refused >>= λ _.
-    with_option columns found option (cut_at 61 word).1
+    with_option command columns found option (cut_at 61 word).1
 
 -- the text begins with a dash
 abbrev pub is_dashed : List ℕ → Bool
@@ -50,13 +50,13 @@ is_dashed [] = false
 is_dashed (b ∷ text) = b == 45
 
 -- a word in a value's place: whatever it is, it is the value, but none begins with a dash
-unfoldable pub after_value : List Column → Found → OptionName → List ℕ → Result Progress ValueFault
-after_value columns found option word = guard (not (is_dashed word)) Refused >>= λ _. with_text columns found option word
+unfoldable pub after_value : CommandName → List Column → Found → OptionName → List ℕ → Result Progress ValueFault
+after_value command columns found option word = guard (not (is_dashed word)) Refused >>= λ _. with_text command columns found option word
 
 -- a word behind the options found, one of which may wait for its value
 abbrev pub after_word : CommandName → List Column → Found → Option OptionName → List ℕ → Result Progress ValueFault
 after_word command columns found None word = after_option command columns found word
-after_word command columns found (Some option) word = after_value columns found option word
+after_word command columns found (Some option) word = after_value command columns found option word
 
 -- ---- all options
 
@@ -109,19 +109,40 @@ made common number rows =
     ok_or rows (Missing (codes "--rows")) >>= λ r.
     Ok (commands.Make (record common { capacity = r }) n r)
 
--- the command with its options, or the first required one that is missing, `--query` apart
-abbrev pub command_with : CommandName → List Column → Found → Result Command WordFault
-command_with name.Ask columns found = Ok (commands.Ask (common_of columns found))
-command_with name.Replay columns found = replayed (common_of columns found) found.schedule
-command_with name.Race columns found =
+-- the number of the word in which the value of an option stands that has no text, or this one behind its `=`
+abbrev pub value_word : ℕ → Option (List ℕ) → ℕ
+value_word index None = index + 1
+value_word index (Some text) = index
+
+-- the number of the word in which the value of `--to` stands, where the first of the words has this number; no value begins with a dash
+abbrev pub to_word : ℕ → List (List ℕ) → ℕ
+to_word index [] = index
+to_word index (word ∷ words) =
+    if bytes_eq (cut_at 61 word).0 (codes "--to") then value_word index (cut_at 61 word).1 else to_word (index + 1) words
+
+-- a range of places, or what is missing of its ends; where it ends before it begins, the value of `--to` is bad
+abbrev pub ranged : List (List ℕ) → Common → Option ℕ → Option ℕ → Result Command WordFault
+ranged words common from to =
+    ok_or from (Missing (codes "--from")) >>= λ low.
+    ok_or to (Missing (codes "--to")) >>= λ high.
+    guard (nat_le low high) (Word (to_word 2 words)) >>= λ _.
+    Ok (commands.Tree common low high)
+
+-- the command with its options, which these words behind the schema say, or the first required one that is missing, `--query` apart
+abbrev pub command_with : List (List ℕ) → CommandName → List Column → Found → Result Command WordFault
+command_with words name.Ask columns found = Ok (commands.Ask (common_of columns found))
+command_with words name.Replay columns found = replayed (common_of columns found) found.schedule
+command_with words name.Race columns found =
     Ok (commands.Race (common_of columns found) (unwrap_or found.writers 2) (unwrap_or found.askers 2) (unwrap_or found.rounds 1))
-command_with name.Make columns found = made (common_of columns found) found.number found.rows
-command_with name.Trace columns found = Ok (commands.Trace (common_of columns found))
-command_with name.Tamper columns found = tampered (common_of columns found) found.shifts
+command_with words name.Make columns found = made (common_of columns found) found.number found.rows
+command_with words name.Trace columns found = Ok (commands.Trace (common_of columns found))
+command_with words name.Tamper columns found = tampered (common_of columns found) found.shifts
+command_with words name.Tree columns found = ranged words (common_of columns found) found.from found.to
 
 -- every command wants a query, before all else
-unfoldable pub finished : CommandName → List Column → Found → Result Command WordFault
-finished command columns found = guard (is_some_of found.queries) (Missing (codes "--query")) >>= λ _. command_with command columns found
+unfoldable pub finished : List (List ℕ) → CommandName → List Column → Found → Result Command WordFault
+finished words command columns found =
+    guard (is_some_of found.queries) (Missing (codes "--query")) >>= λ _. command_with words command columns found
 
 -- nothing said yet
 abbrev pub beginning : Progress
@@ -130,7 +151,7 @@ beginning = record { found = nothing_found; waiting = None }
 -- the words behind the schema
 abbrev pub after_schema : CommandName → List (List ℕ) → Result (List Column) SchemaFault → Result Command WordFault
 after_schema command words (Err why) = Err (Word 1)
-after_schema command words (Ok columns) = options_from command columns 2 beginning words >>= λ found. finished command columns found
+after_schema command words (Ok columns) = options_from command columns 2 beginning words >>= λ found. finished words command columns found
 
 -- the words behind the command
 abbrev pub after_command : CommandName → List (List ℕ) → Result Command WordFault

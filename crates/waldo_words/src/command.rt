@@ -47,4 +47,11 @@ pub enum Command {
         common: Common,
         shifts: ShiftWords,
     },
+    /// Count the rows at the places from `low` to `high` - 1 that pass the one predicate of the one query, over a tree of the places.
+    /// `low` is at most `high`, and `high` at most 65,536.
+    Tree {
+        common: Common,
+        low: u64,
+        high: u64,
+    },
 }

@@ -24,6 +24,8 @@ pub(crate) struct Found {
     pub number: Option<u32>,
     pub rows: Option<u32>,
     pub shifts: ShiftWords,
+    pub from: Option<u64>,
+    pub to: Option<u64>,
 }
 
 // One where there is a value.
@@ -53,6 +55,8 @@ impl Found {
             number: None,
             rows: None,
             shifts: ShiftWords::new(alloc),
+            from: None,
+            to: None,
         }
     }
 
@@ -72,6 +76,8 @@ impl Found {
             OptionName::Number => count(&self.number),
             OptionName::Rows => count(&self.rows),
             OptionName::Shift => self.shifts.len(),
+            OptionName::From => count(&self.from),
+            OptionName::To => count(&self.to),
         }
     }
 
@@ -91,6 +97,8 @@ impl Found {
             Value::Number(number) => self.number = Some(number),
             Value::Rows(rows) => self.rows = Some(rows),
             Value::Shift(shift) => self.shifts.push(shift)?,
+            Value::From(low) => self.from = Some(low),
+            Value::To(high) => self.to = Some(high),
         }
         Ok(self)
     }

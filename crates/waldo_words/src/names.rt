@@ -11,6 +11,7 @@ pub(crate) enum CommandName {
     Make,
     Trace,
     Tamper,
+    Tree,
 }
 
 /// Which option it is.
@@ -27,6 +28,8 @@ pub(crate) enum OptionName {
     Number,
     Rows,
     Shift,
+    From,
+    To,
 }
 
 /// The command with this name.
@@ -46,6 +49,8 @@ pub(crate) fn command_name(word: &str) -> Option<CommandName>
         Some(CommandName::Trace)
     } else if word == "tamper" {
         Some(CommandName::Tamper)
+    } else if word == "tree" {
+        Some(CommandName::Tree)
     } else {
         None
     }
@@ -78,6 +83,10 @@ pub(crate) fn option_name(word: &str) -> Option<OptionName>
         Some(OptionName::Rows)
     } else if word == "--shift" {
         Some(OptionName::Shift)
+    } else if word == "--from" {
+        Some(OptionName::From)
+    } else if word == "--to" {
+        Some(OptionName::To)
     } else {
         None
     }
@@ -90,7 +99,7 @@ impl OptionName {
     {
         match self {
             OptionName::Query => match command {
-                CommandName::Tamper => 1,
+                CommandName::Tamper | CommandName::Tree => 1,
                 _ => 16,
             },
             OptionName::Capacity => match command {
@@ -112,6 +121,10 @@ impl OptionName {
             },
             OptionName::Shift => match command {
                 CommandName::Tamper => 16,
+                _ => 0,
+            },
+            OptionName::From | OptionName::To => match command {
+                CommandName::Tree => 1,
                 _ => 0,
             },
         }

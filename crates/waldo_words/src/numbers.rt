@@ -8,7 +8,7 @@ use table_schema::Schema;
 use text_reading::number;
 
 // The most rows of a table.
-const MOST_ROWS: u64 = 65_536;
+pub(crate) const MOST_ROWS: u64 = 65_536;
 
 /// The number of a text, where it is from low to high.
 #[tactic(auto, unfolding(crate::specs::Values::number_within))]

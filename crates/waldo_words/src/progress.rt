@@ -98,7 +98,7 @@ fn take_value(
 ) -> Result<Progress, ValueFault>
     requires legal { IsFound command schema.now found }
     requires room { times_found found option < most_times option command }
-    ensures exact { Gives fault.Memory (λ p. p) result (after_value schema.now found option word.now) }
+    ensures exact { Gives fault.Memory (λ p. p) result (after_value command schema.now found option word.now) }
     ensures legal { IfOk result (IsProgress command schema.now) }
 {
     if begins_with_dash(word.as_bytes()) {
@@ -119,18 +119,18 @@ fn read_text(
 ) -> Result<Progress, ValueFault>
     requires legal { IsFound command schema.now found }
     requires room { times_found found option < most_times option command }
-    ensures exact { Gives fault.Memory (λ p. p) result (with_text schema.now found option text.now) }
+    ensures exact { Gives fault.Memory (λ p. p) result (with_text command schema.now found option text.now) }
     ensures legal { IfOk result (IsProgress command schema.now) }
 {
-    let value = read_value(alloc, schema, option, text)?;
+    let value = read_value(alloc, command, schema, option, text)?;
     Ok(Progress {
         found: found.with(value)?,
         waiting: None,
     })
 }
 
-// What stands before the first `=` of a word, or all of it, and what stands after it, where there is one.
-fn split(word: &str) -> (&str, Option<&str>)
+/// What stands before the first `=` of a word, or all of it, and what stands after it, where there is one.
+pub(crate) fn split(word: &str) -> (&str, Option<&str>)
     ensures front { result.0.now ≡ (cut_at 61 word.now).0 }
     ensures after { option_copied result.1 ≡ (cut_at 61 word.now).1 }
 {

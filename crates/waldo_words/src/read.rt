@@ -61,7 +61,7 @@ fn behind_schema(
     ensures legal { IfOk result IsLegal }
 {
     match read_options(alloc, command, &schema, words) {
-        Ok(found) => finish(command, schema, found),
+        Ok(found) => finish(command, schema, words, found),
         Err(fault) => Err(fault),
     }
 }

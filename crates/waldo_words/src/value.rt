@@ -1,15 +1,15 @@
 //! The values of options.
-ghost use Rattle.std.specs.Prelude.{◌≡◌, IfOk};
+ghost use Rattle.std.specs.Prelude.{◌≡◌, IfOk, IfSome};
 ghost use Rattle.std.specs.Option.{ok_or};
 ghost use Rattle.text_reading.specs.Reading.{Gives};
-ghost use Rattle.waldo_words.specs.Legal.{IsValue};
-ghost use Rattle.waldo_words.specs.Options.{option_of, value_of};
+ghost use Rattle.waldo_words.specs.Legal.{IsQuery, IsValue};
+ghost use Rattle.waldo_words.specs.Options.{may_ask, option_of, query_for, value_of};
 ghost use Rattle.waldo_words.specs.declared.faults.ValueFault.TheVariants as fault;
 
 use crate::amounts::shift_word;
 use crate::faults::ValueFault;
-use crate::names::OptionName;
-use crate::numbers::{capacity, few, start_number};
+use crate::names::{CommandName, OptionName};
+use crate::numbers::{MOST_ROWS, capacity, few, start_number, within};
 use crate::schedule::Schedule;
 use crate::seeds::master_seed;
 use crate::shifts::ShiftWord;
@@ -17,7 +17,7 @@ use crate::steps::read_schedule;
 use prg_chacha::Seed;
 use query_plan::{Query, read_query};
 use std::alloc::Global;
-use table_schema::Schema;
+use table_schema::{Aggregate, Schema};
 
 /// A value, with the option whose value it is.
 #[derive(Drop)]
@@ -33,26 +33,56 @@ pub(crate) enum Value {
     Number(u32),
     Rows(u32),
     Shift(ShiftWord),
+    From(u64),
+    To(u64),
 }
 
-/// The value that a text is for an option, over the columns of the table.
+// Whether a command asks such a query: `tree` a count with one predicate alone.
+fn may_ask(command: CommandName, query: &Query) -> bool
+    ensures { result ≡ may_ask command query.now }
+{
+    match command {
+        CommandName::Tree => match query.aggregate {
+            Aggregate::Count => query.count == 1,
+            Aggregate::Sum => false,
+        },
+        _ => true,
+    }
+}
+
+// The query of a text, where the command may ask it.
+#[tactic(auto, unfolding(crate::specs::Options::query_for))]
+fn query_for(command: CommandName, schema: &Schema, text: &str) -> Option<Query>
+    ensures value { result ≡ query_for command schema.now text.now }
+    ensures legal { IfSome result (IsQuery command schema.now) }
+{
+    match read_query(schema, text) {
+        Ok(query) => {
+            if !may_ask(command, &query) {
+                return None;
+            }
+            Some(query)
+        }
+        Err(_) => None,
+    }
+}
+
+/// The value that a text is for an option of a command, over the columns of the table.
 pub(crate) fn read_value(
     alloc: Global,
+    command: CommandName,
     schema: &Schema,
     option: OptionName,
     text: &str,
 ) -> Result<Value, ValueFault>
-    ensures exact { Gives fault.Memory (λ v. v) result (ok_or (value_of schema.now option text.now) fault.Refused) }
+    ensures exact { Gives fault.Memory (λ v. v) result (ok_or (value_of command schema.now option text.now) fault.Refused) }
     ensures named { IfOk result (λ v. option_of v ≡ option) }
-    ensures legal { IfOk result (IsValue schema.now) }
+    ensures legal { IfOk result (IsValue command schema.now) }
 {
     let refused = ValueFault::Refused;
     let bytes = text.as_bytes();
     match option {
-        OptionName::Query => match read_query(schema, text) {
-            Ok(query) => Ok(Value::Query(query)),
-            Err(_) => Err(refused),
-        },
+        OptionName::Query => Ok(Value::Query(query_for(command, schema, text).ok_or(refused)?)),
         OptionName::Seed => Ok(Value::Seed(master_seed(text).ok_or(refused)?)),
         OptionName::Capacity => Ok(Value::Capacity(capacity(schema, bytes).ok_or(refused)?)),
         OptionName::Workers => Ok(Value::Workers(few(bytes).ok_or(refused)?)),
@@ -63,5 +93,7 @@ pub(crate) fn read_value(
         OptionName::Number => Ok(Value::Number(start_number(bytes).ok_or(refused)?)),
         OptionName::Rows => Ok(Value::Rows(capacity(schema, bytes).ok_or(refused)?)),
         OptionName::Shift => Ok(Value::Shift(shift_word(bytes).ok_or(refused)?)),
+        OptionName::From => Ok(Value::From(within(0, MOST_ROWS, bytes).ok_or(refused)?)),
+        OptionName::To => Ok(Value::To(within(0, MOST_ROWS, bytes).ok_or(refused)?)),
     }
 }

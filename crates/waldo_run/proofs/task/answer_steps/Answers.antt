@@ -1,7 +1,7 @@
 use Rattle.std.proofs.lemmas.Result.{IfOk-from_err}
 use Rattle.waldo_run.proofs.Answering.{answered, begun}
 use Rattle.waldo_run.proofs.Settings.{task_legal}
-use Rattle.waldo_run.proofs.task.answer_rows.Goals as goal
+use Rattle.waldo_run.proofs.task.answer_steps.Goals as goal
 
 pub play-played-requires-clause-setting : goal.play-played-requires-clause-setting
 play-played-requires-clause-setting g c κs within = task_legal c.args.command.now c.args.widths.now c.args.rows.now c.requires.legal c.requires.widths c.requires.held c.requires.few
@@ -11,7 +11,7 @@ returns-in_err-reply-clause-asked g c =
     let p = c.play-played.ensures.plays in (
       p.history,
       p.sent,
-      begun c.args.command.now c.args.widths.now c.args.rows.now p.history _ c.requires.widths p.ended c.from_residual.result,
+      begun c.args.command.now c.args.widths.now c.args.rows.now p.history _ c.requires.widths c.requires.steps p.ended c.from_residual.result,
       IfOk-from_err c.from_residual.result _ c.from_residual.ensures.0,
     )
 
@@ -21,6 +21,6 @@ returns-clause-asked g c =
     let legal = task_legal c.args.command.now c.args.widths.now c.args.rows.now c.requires.legal c.requires.widths c.requires.held c.requires.few in (
       p.history,
       p.sent,
-      begun c.args.command.now c.args.widths.now c.args.rows.now p.history _ c.requires.widths p.ended c.reported.result,
-      answered c.args.command.now c.args.widths.now c.args.rows.now _ _ _ c.requires.widths legal p c.in_ok-reply.reply c.in_ok-reply.ensures c.reported.result c.reported.ensures,
+      begun c.args.command.now c.args.widths.now c.args.rows.now p.history _ c.requires.widths c.requires.steps p.ended c.reported.result,
+      answered c.args.command.now c.args.widths.now c.args.rows.now _ _ _ c.requires.widths c.requires.steps legal p c.in_ok-reply.reply c.in_ok-reply.ensures c.reported.result c.reported.ensures,
     )
