@@ -66,4 +66,4 @@ pub record TakesRows (w : Widths) (k : ℕ) (entries : List Entry) (log : Log) :
   pub journal : log.journal ≡ range_with_len 0 (length entries)
   pub pieces : (place : ℕ) (piece : Piece) (d : Entry) → piece_at log.slots place ≡ Some piece
       → (place < length entries) × IsPiece w (slice_index_or entries place d).row (slice_index_or entries place d).seed k piece
-          × HasWidths w piece
+      × HasWidths w piece

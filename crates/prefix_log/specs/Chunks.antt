@@ -45,7 +45,8 @@ stored_piece server w chunks place = record {
   cells = record {
     first = half_at (λ h. h.first) w chunks place;
     second = half_at (λ h. h.second) w chunks place;
-    lengths = half_long w chunks place };
+    lengths = half_long w chunks place;
+  };
 }
 
 -- at each place its piece, if it is marked as filled
@@ -106,7 +107,7 @@ pub record RowWritten (w : Widths) (row : ℕ) (first second : List ℕ) (old ne
   pub columns : length new ≡ length old
   pub each : (column : ℕ) → column ≤ w.columns
       → HalvesWritten (row * width_of w column) (cells_at w column first) (cells_at w column second) (halves_at old column)
-          (halves_at new column)
+      (halves_at new column)
 
 -- and into chunks at a place
 pub record PlaceWritten (w : Widths) (place : ℕ) (first second : List ℕ) (old new : List (List Halves)) : Type 0 where

@@ -41,14 +41,22 @@ pub record IsLog (log : Log) : Type 0 where
 -- the log of cells in chunks, of which those at filled places count
 abbrev pub log_of : ℕ → Widths → ℕ → List ℕ → List Bool → List (List Halves) → Log
 log_of server w capacity journal filled chunks = record {
-  server = server; widths = w; capacity = capacity; journal = journal;
-  slots = stored_slots server w capacity filled chunks }
+  server = server;
+  widths = w;
+  capacity = capacity;
+  journal = journal;
+  slots = stored_slots server w capacity filled chunks;
+}
 
 -- a log without pieces
 abbrev pub empty_log : ℕ → Widths → ℕ → Log
 empty_log server w capacity = record {
-  server = server; widths = w; capacity = capacity; journal = [];
-  slots = listed capacity (λ (place : ℕ). None) }
+  server = server;
+  widths = w;
+  capacity = capacity;
+  journal = [];
+  slots = listed capacity (λ (place : ℕ). None);
+}
 
 -- the log after a piece came to a place: a free place takes it and stands at the journal's end; else nothing changes
 abbrev pub placed : Log → ℕ → Piece → Log

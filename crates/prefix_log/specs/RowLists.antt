@@ -13,13 +13,13 @@ row_cells width cells row = listed width (λ i. slice_index cells (row * width +
 -- rows of the same widths are equally long, one after another
 pub rows_long : (width : ℕ → ℕ) (xs ys : ℕ → List ℕ) (row start n : ℕ)
     → length (flat_map (λ i. row_cells (width i) (xs i) row) (range_with_len start n))
-        ≡ length (flat_map (λ i. row_cells (width i) (ys i) row) (range_with_len start n))
+    ≡ length (flat_map (λ i. row_cells (width i) (ys i) row) (range_with_len start n))
 rows_long width xs ys row start zero = refl
 rows_long width xs ys row start (suc n) =
     length-append (row_cells (width start) (xs start) row) (flat_map (λ i. row_cells (width i) (xs i) row) (range_with_len (start + 1) n))
     ∙ ap (λ (m : ℕ). m + length (flat_map (λ i. row_cells (width i) (xs i) row) (range_with_len (start + 1) n)))
-        (length-listed (width start) (λ i. slice_index (xs start) (row * width start + i))
-        ∙ sym (length-listed (width start) (λ i. slice_index (ys start) (row * width start + i))))
+    (length-listed (width start) (λ i. slice_index (xs start) (row * width start + i))
+    ∙ sym (length-listed (width start) (λ i. slice_index (ys start) (row * width start + i))))
     ∙ ap (λ (m : ℕ). length (row_cells (width start) (ys start) row) + m) (rows_long width xs ys row (start + 1) n)
     ∙ sym (length-append (row_cells (width start) (ys start) row)
-        (flat_map (λ i. row_cells (width i) (ys i) row) (range_with_len (start + 1) n)))
+    (flat_map (λ i. row_cells (width i) (ys i) row) (range_with_len (start + 1) n)))

@@ -28,10 +28,10 @@ pub record IsPart (low high : ℕ) (whole part : Held) : Type 0 where
   pub width : (column : ℕ) → column ≤ whole.columns → part.width column ≡ whole.width column
   pub first : (column : ℕ) → column ≤ whole.columns
       → part.pieces.first column ≡ cells_between (whole.width column) (rows_before whole.rows low) (rows_before whole.rows high)
-          (whole.pieces.first column)
+      (whole.pieces.first column)
   pub second : (column : ℕ) → column ≤ whole.columns
       → part.pieces.second column ≡ cells_between (whole.width column) (rows_before whole.rows low) (rows_before whole.rows high)
-          (whole.pieces.second column)
+      (whole.pieces.second column)
 
 -- a part has an even share of the chunks: as many as the others, or one more
 pub record IsEven (chunks workers : ℕ) (h : Held) : Type 0 where

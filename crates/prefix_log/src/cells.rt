@@ -20,9 +20,10 @@ impl Model for Cells {
     ghost Value = { Halves };
 
     ghost view = { λ s. record {
-        first = s.first.items;
-        second = s.second.items;
-        room = min (vec_capacity s.first) (vec_capacity s.second) } };
+      first = s.first.items;
+      second = s.second.items;
+      room = min (vec_capacity s.first) (vec_capacity s.second);
+    } };
 }
 
 impl Cells {

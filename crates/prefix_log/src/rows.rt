@@ -61,10 +61,10 @@ impl Rows {
         requires below { c < self.now.start + chunks_of self.now.count }
         ensures first { let s = self.now in
             result.first.now ≡ chunk_of (width_of s.widths column) (c - s.start)
-                ((first_rows s.widths s.count s.start (map arc_value s.chunks.items)).pieces.first column) }
+            ((first_rows s.widths s.count s.start (map arc_value s.chunks.items)).pieces.first column) }
         ensures second { let s = self.now in
             result.second.now ≡ chunk_of (width_of s.widths column) (c - s.start)
-                ((first_rows s.widths s.count s.start (map arc_value s.chunks.items)).pieces.second column) }
+            ((first_rows s.widths s.count s.start (map arc_value s.chunks.items)).pieces.second column) }
     {
         let chunk = c - self.start;
         let rows = 64.min(self.count - 64 * u64::from(chunk));

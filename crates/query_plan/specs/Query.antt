@@ -44,7 +44,7 @@ pub record IsNext (columns : ℕ) (bits : List ℕ) (earlier : List Predicate) (
 abbrev pub IsPlaced : ℕ → List ℕ → Query → ℕ → Type 0
 IsPlaced columns bits query i =
     MatchBool (nat_lt i query.count)
-        (IsNext columns bits (take i query.predicates) (predicate_at query i)) (predicate_at query i ≡ no_predicate)
+    (IsNext columns bits (take i query.predicates) (predicate_at query i)) (predicate_at query i ≡ no_predicate)
 
 -- a legal query over `columns` columns of these bits: 1 to 4 predicates, each on a column of its own
 pub record Suits (columns : ℕ) (bits : List ℕ) (query : Query) : Type 0 where

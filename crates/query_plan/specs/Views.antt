@@ -40,4 +40,4 @@ pub record AreKeys (bits : List ℕ) (views : ℕ → View) (query : Query) (wei
   pub pairs : (run j k : ℕ) → run < 2 → j < query.count → k < 3
       → let p = predicate_at query j in
       IsTablePair (2 ^ slice_index bits p.column)
-          ((views ((k + 1) % 3)).party0 run j) ((views k).party1 run j) (weight_inside p (weights run j))
+      ((views ((k + 1) % 3)).party0 run j) ((views k).party1 run j) (weight_inside p (weights run j))

@@ -36,8 +36,7 @@ pub(crate) fn is_taken(c: u8, earlier: &[Predicate]) -> bool
 }
 
 /// The predicate of a piece behind earlier ones, or its first fault.
-#[tactic(auto, using(crate::proofs::QueryLaws::bucket_below, crate::proofs::QueryLaws::buckets_in_order),
-    unfolding(crate::specs::Reading::predicate_of))]
+#[tactic(auto, using(crate::proofs::QueryLaws::bucket_below, crate::proofs::QueryLaws::buckets_in_order), unfolding(crate::specs::Reading::predicate_of))]
 pub(crate) fn predicate(
     schema: &Schema,
     earlier: &[Predicate],

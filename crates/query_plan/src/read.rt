@@ -46,9 +46,7 @@ pub fn read_query(schema: &Schema, text: &str) -> Result<Query, QueryFault>
 }
 
 // The same, of the bytes of a text.
-#[tactic(auto, using(crate::proofs::QueryLaws::no_aggregate, crate::proofs::QueryLaws::too_few, crate::proofs::QueryLaws::too_many,
-    crate::proofs::QueryLaws::begins, crate::proofs::QueryLaws::good_predicate, crate::proofs::QueryLaws::bad_predicate,
-    crate::proofs::QueryLaws::no_more, crate::proofs::QueryLaws::fewer_left, crate::proofs::Legal::suits_widths))]
+#[tactic(auto, using(crate::proofs::QueryLaws::no_aggregate, crate::proofs::QueryLaws::too_few, crate::proofs::QueryLaws::too_many, crate::proofs::QueryLaws::begins, crate::proofs::QueryLaws::good_predicate, crate::proofs::QueryLaws::bad_predicate, crate::proofs::QueryLaws::no_more, crate::proofs::QueryLaws::fewer_left, crate::proofs::Legal::suits_widths))]
 pub(crate) fn read_bytes(schema: &Schema, text: &[u8]) -> Result<Query, QueryFault>
     ensures exact { Reads (λ q. q) result (query_of schema.now text.now) }
     ensures suits { IfOk result (λ q. (w : Widths) → AreWidthsOf schema.now w → Suits w.columns w.bits q) }

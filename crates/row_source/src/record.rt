@@ -64,9 +64,7 @@ fn value_in(field: &[u8]) -> Result<i64, RowWhy>
 }
 
 /// The row of a record, or its first fault.
-#[tactic(auto, using(crate::proofs::RowLaws::other_fields, crate::proofs::RowLaws::row_start, crate::proofs::RowLaws::bad_number,
-    crate::proofs::RowLaws::bad_domain, crate::proofs::RowLaws::next_bucket, crate::proofs::RowLaws::last_value,
-    crate::proofs::RowLaws::bad_value))]
+#[tactic(auto, using(crate::proofs::RowLaws::other_fields, crate::proofs::RowLaws::row_start, crate::proofs::RowLaws::bad_number, crate::proofs::RowLaws::bad_domain, crate::proofs::RowLaws::next_bucket, crate::proofs::RowLaws::last_value, crate::proofs::RowLaws::bad_value))]
 pub(crate) fn row_in(schema: &Schema, line: &ByteRecord) -> Result<Row, RowWhy>
     ensures { Reads (λ r. r) result (row_of schema.now (fields_of line.now)) }
 {
@@ -96,8 +94,7 @@ pub(crate) fn row_in(schema: &Schema, line: &ByteRecord) -> Result<Row, RowWhy>
 }
 
 /// Whether a record is the columns' names in order and then `value`.
-#[tactic(auto, using(crate::proofs::HeaderLaws::other_length, crate::proofs::HeaderLaws::header_next,
-    crate::proofs::HeaderLaws::header_last))]
+#[tactic(auto, using(crate::proofs::HeaderLaws::other_length, crate::proofs::HeaderLaws::header_next, crate::proofs::HeaderLaws::header_last))]
 pub(crate) fn is_header_row(schema: &Schema, line: &ByteRecord) -> bool
     ensures { result ≡ is_header schema.now (fields_of line.now) }
 {

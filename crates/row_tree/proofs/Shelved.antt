@@ -26,10 +26,16 @@ grown_more held old i d t now new h is before after =
     let long : i < length (map held old) = omega (arith, length-map old held) in
     let here : get_or (map held old) i (held d) ≡ held d = get_or-map held old i d (held d) h ∙ sym is in
     let rows : rows_of (take i (map held old)) + (held d).rows ≡ rows_of (take (i + 1) (map held old)) =
-        ap (λ (k : Held). rows_of (take i (map held old)) + k.rows) (sym here) ∙ total_more (λ (k : Held). k.rows) (map held old) i (held d) long in
+    ap (λ (k : Held). rows_of (take i (map held old)) + k.rows) (sym here) ∙ total_more (λ (k : Held). k.rows) (map held old) i (held d) long in
     let count : t.rows + rows_of (take i (map held old)) + (held d).rows ≡ t.rows + rows_of (take (i + 1) (map held old)) = omega (arith, rows) in
-    after ∙ rw (before, count, append_assoc t.first ((pieces_of (take i (map held old))).first c) ((held d).pieces.first c), firsts,
-      append_assoc t.second ((pieces_of (take i (map held old))).second c) ((held d).pieces.second c), seconds) refl
+    after ∙ rw (
+      before,
+      count,
+      append_assoc t.first ((pieces_of (take i (map held old))).first c) ((held d).pieces.first c),
+      firsts,
+      append_assoc t.second ((pieces_of (take i (map held old))).second c) ((held d).pieces.second c),
+      seconds,
+    ) refl
 
 -- all shelves
 pub grown_all : {S : Type 0} (held : S → Held) (old : List S) (i : ℕ) (t now : Tree) → length old ≤ i → now ≡ grown t (take i (map held old)) → now ≡ grown t (map held old)

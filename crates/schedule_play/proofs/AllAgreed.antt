@@ -42,11 +42,11 @@ module _ (entries : List (Row × Seed)) where
       → (third.core ≡ core_agreed entries) × (third.widths ≡ start.widths)
   all_agreed start first second third is f g h =
       let a : first ≡ record start { core = core_fixed entries (First n) } =
-          f (core_fixed entries (First n), replies.Fixed n) (λ pair. ap (λ (c : Core). step start.capacity c (events.Fix 0) pair) is ∙ first_fix start.capacity pair) in
+      f (core_fixed entries (First n), replies.Fixed n) (λ pair. ap (λ (c : Core). step start.capacity c (events.Fix 0) pair) is ∙ first_fix start.capacity pair) in
       let b : second ≡ record first { core = core_fixed entries (Second n n) } =
-          g (core_fixed entries (Second n n), replies.Fixed n)
-          (λ pair. ap (λ (c : Core). step first.capacity c (events.Fix 0) pair) (ap (λ (m : Seen). m.core) a) ∙ second_fix first.capacity pair) in
+      g (core_fixed entries (Second n n), replies.Fixed n)
+      (λ pair. ap (λ (c : Core). step first.capacity c (events.Fix 0) pair) (ap (λ (m : Seen). m.core) a) ∙ second_fix first.capacity pair) in
       let c : third ≡ record second { core = core_agreed entries } =
-          h (core_agreed entries, replies.Agreed n)
-          (λ pair. ap (λ (c : Core). step second.capacity c (events.Fix 0) pair) (ap (λ (m : Seen). m.core) b) ∙ third_fix second.capacity pair) in
+      h (core_agreed entries, replies.Agreed n)
+      (λ pair. ap (λ (c : Core). step second.capacity c (events.Fix 0) pair) (ap (λ (m : Seen). m.core) b) ∙ third_fix second.capacity pair) in
       (ap (λ (m : Seen). m.core) c, ap (λ (m : Seen). m.widths) c ∙ ap (λ (m : Seen). m.widths) b ∙ ap (λ (m : Seen). m.widths) a)

@@ -25,7 +25,7 @@ pub record IsOpened (ms : List Message) (total : ℕ) : Type 0 where
   pub full : length ms ≡ 3
   pub sum : total
       ≡ plus (plus (slice_index (message_at ms 0).received 0) (slice_index (message_at ms 1).received 0))
-          (slice_index (message_at ms 2).received 0)
+      (slice_index (message_at ms 2).received 0)
 
 -- the word of a server in a run of a query with one predicate over two sums of rows: its tables at the sums, and a part of zero
 abbrev pub sum_word : View → ℕ → List ℕ → List ℕ → ℕ → ℕ

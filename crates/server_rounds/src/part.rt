@@ -114,7 +114,7 @@ fn share_of<S: Shelf>(plan: &Plan, chain: &PairList, shelves: &mut Vec<S>) -> Re
     ensures share { let pieces = pieces_of (map S.held shelves.old.items) in
         let value = plan.now.widths.columns in
         IfOk result (λ n. n ≡ opening_share plan.now.shape.aggregate chain.now.first chain.now.second (pieces.first value)
-            (pieces.second value)) }
+        (pieces.second value)) }
     ensures visits { AreVisited S.held S.visited
         (opened_columns plan.now.shape.aggregate plan.now.widths.columns) shelves.old.items shelves.new.items result }
 {

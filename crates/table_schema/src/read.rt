@@ -24,8 +24,7 @@ fn is_taken(name: &[u8], columns: &[Column]) -> bool
 
 /// The columns that a text describes, or its first fault. The text is cut at each comma, and each piece is
 /// `name:bits`, then `@start` and `/step` where they are not 0 and 1, as `time:8@1700000000/3600`.
-#[tactic(auto, using(crate::proofs::SchemaLaws::many_pieces, crate::proofs::SchemaLaws::few_pieces, crate::proofs::SchemaLaws::none_left,
-    crate::proofs::SchemaLaws::bad_piece, text_reading::proofs::CutLaws::some_piece, text_reading::proofs::CutLaws::pieces_fewer))]
+#[tactic(auto, using(crate::proofs::SchemaLaws::many_pieces, crate::proofs::SchemaLaws::few_pieces, crate::proofs::SchemaLaws::none_left, crate::proofs::SchemaLaws::bad_piece, text_reading::proofs::CutLaws::some_piece, text_reading::proofs::CutLaws::pieces_fewer))]
 pub fn read_schema(alloc: Global, text: &str) -> Result<Schema, SchemaFault>
     ensures { Gives fault.Memory (λ schema. schema) result (schema_of text.now) }
 {

@@ -71,8 +71,7 @@ impl Schema {
 
     /// The bucket of a raw number in the column with this place: how many whole steps it is above the
     /// start. None where it is below the start, or that number does not fit the column's bits.
-    #[tactic(auto, using(crate::proofs::BucketLaws::bucket_read, crate::proofs::BucketLaws::below, crate::proofs::BucketLaws::inside,
-        crate::proofs::BucketLaws::past))]
+    #[tactic(auto, using(crate::proofs::BucketLaws::bucket_read, crate::proofs::BucketLaws::below, crate::proofs::BucketLaws::inside, crate::proofs::BucketLaws::past))]
     pub fn bucket(&self, c: u8, raw: u64) -> Option<u8>
         requires { c < length self.now }
         ensures { result ≡ bucket_at self.now c raw }

@@ -88,7 +88,7 @@ KeysAreLong s = (k : ℕ) → k < 3 → length (s.keys k) ≡ message_length s.s
 abbrev pub LengthsAreTrace : Type 0
 LengthsAreTrace =
     (s : Setup) (ms : List Message) (k : ℕ) → k < 3 → s.ending ≡ total_ending s.sizes → 0 < count_of s.sizes → KeysAreLong s
-        → IsTranscript s ms
+    → IsTranscript s ms
     → lengths_at k ms ≡ (seen_by (trace_of s.sizes) k).lengths
 
 -- those of the first messages are a prefix of them

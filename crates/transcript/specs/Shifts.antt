@@ -40,7 +40,7 @@ realigned_words s ms server run step = words_of s.sizes s.ending run (realigned_
 abbrev pub shift_of : Setup → List Message → ℕ → ℕ → Step → ℕ → ℕ
 shift_of s ms server run step i =
     minus (slice_index (message_at ms (place_of (count_of s.sizes) s.ending.further run step server)).received i)
-        (slice_index (realigned_words s ms server run step) i)
+    (slice_index (realigned_words s ms server run step) i)
 
 -- the product of a row's bits through predicate j, with the shifts of each step
 abbrev pub shifted_chain : (ℕ → ℕ → ℕ) → (Step → ℕ → ℕ) → ℕ → ℕ → ℕ

@@ -54,7 +54,8 @@ saw_none a p = record { visits = list_none a.visits p.visits; lengths = list_non
 saw_whole : (a b p : Seen) → SawMore a b p → SawPrefix a b p
 saw_whole a b p e = record {
   visits = list_whole a.visits b.visits p.visits e.visits;
-  lengths = list_whole a.lengths b.lengths p.lengths e.lengths }
+  lengths = list_whole a.lengths b.lengths p.lengths e.lengths;
+}
 
 saw_begun : (a b c p q : Seen) → SawMore a b p → SawPrefix b c q → SawPrefix a c (then_at p q)
 saw_begun a b c p q e f = record {

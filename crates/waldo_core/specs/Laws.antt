@@ -11,4 +11,4 @@ use Rattle.waldo_core.specs.declared.events.Reply.{Reply}
 abbrev pub LegalStays : Type 0
 LegalStays = IsLegal empty_core
     × ((capacity : ℕ) (core next : Core) (event : Event) (pair : OpenedPair) (reply : Reply) → IsLegal core
-        → step capacity core event pair ≡ Some (next, reply) → IsLegal next)
+    → step capacity core event pair ≡ Some (next, reply) → IsLegal next)

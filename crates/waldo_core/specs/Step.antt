@@ -23,8 +23,11 @@ drawn capacity core number actor entry =
     let place = length core.order in
     let draw : Open = record { place = place; zero = false; one = false; two = false } in
     if nat_lt place capacity
-    then (with_actor (record core { order = core.order ++ entry ∷ [] }) number
-        (record actor { draw = Some draw; fixes = Unfixed }), replies.Drew place)
+    then (
+      with_actor (record core { order = core.order ++ entry ∷ [] }) number
+          (record actor { draw = Some draw; fixes = Unfixed }),
+      replies.Drew place,
+    )
     else (core, replies.Full capacity)
 
 -- a place at the journal's end, unless it is there
@@ -49,9 +52,11 @@ with_draw actor draw =
 
 -- a placing at server k
 abbrev pub placed : Core → ℕ → Actor → ℕ → Open → Core × Reply
-placed core number actor k draw =
-    (with_actor (with_journal core k (with_place draw.place (journal_of core k))) number
-        (with_draw actor (placed_at k draw)), replies.Placed)
+placed core number actor k draw = (
+  with_actor (with_journal core k (with_place draw.place (journal_of core k))) number
+      (with_draw actor (placed_at k draw)),
+  replies.Placed,
+)
 
 -- a look at server k: the floor rises to what is found there
 abbrev pub looked : Core → ℕ → Actor → ℕ → Core × Reply

@@ -97,14 +97,18 @@ module _ {W : Type 0} (sight : Sight W) (none : NonePasses sight) (w : Widths) (
   pub range_none : length s.rows < high → (result : Result Reply Memory) → IfOk result (λ (reply : Reply). reply ≡ single 5 (lines.TooFew high))
       → RangeAsked sight w s low high vs vs result
   range_none lt (Err memory) is = ([], still_wires sight none vs, tt, tt)
-  range_none lt (Ok reply) is =
-      ([], still_wires sight none vs, tt, (
-        lt,
-        tt,
-        tt,
-        is ∙ sym (few lt),
-        λ still seven. let five : reply.status ≡ 5 = ap (λ (r : Reply). r.status) is in omega (arith, five, seven),
-      ))
+  range_none lt (Ok reply) is = (
+    [],
+    still_wires sight none vs,
+    tt,
+    (
+      lt,
+      tt,
+      tt,
+      is ∙ sym (few lt),
+      λ still seven. let five : reply.status ≡ 5 = ap (λ (r : Reply). r.status) is in omega (arith, five, seven),
+    ),
+  )
     where
       few : length s.rows < high → range_reply s low high (judged_in s (pair_at [] 0)) ≡ single 5 (lines.TooFew high)
       few lt = rw (lt-ltb (length s.rows) high lt) refl
@@ -122,16 +126,20 @@ module _ {W : Type 0} (sight : Sight W) (none : NonePasses sight) (w : Widths) (
     range_sent le all pair opened plain (Err memory) said =
         (asked_once ms pair ∷ [], (first_carried sight none vs v u ms pair some is went).0, (refl, all.part), tt)
     range_sent le all pair opened plain (Ok reply) said =
-        let carried = first_carried sight none vs v u ms pair some is went in
-        (asked_once ms pair ∷ [], carried.0, tt, (
-          (le, refl, all, opened),
-          carried.1,
-          plain,
-          said ∙ sym (enough le),
-          λ still seven.
-              let zero : reply.status ≡ 0 = ap (λ (r : Reply). r.status) (said ∙ ap (range_line low high) (plain (carried.1.0 (still 0)))) in
-              omega (arith, zero, seven),
-        ))
+        let carried = first_carried sight none vs v u ms pair some is went in (
+          asked_once ms pair ∷ [],
+          carried.0,
+          tt,
+          (
+            (le, refl, all, opened),
+            carried.1,
+            plain,
+            said ∙ sym (enough le),
+            λ still seven.
+                let zero : reply.status ≡ 0 = ap (λ (r : Reply). r.status) (said ∙ ap (range_line low high) (plain (carried.1.0 (still 0)))) in
+                omega (arith, zero, seven),
+          ),
+        )
       where
         enough : high ≤ length s.rows → range_reply s low high (judged_in s pair) ≡ range_line low high (judged_in s pair)
         enough le = rw (le-ltb (length s.rows) high le) refl

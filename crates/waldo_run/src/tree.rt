@@ -48,12 +48,7 @@ fn server_tree(
 }
 
 // The trees of the three servers over a column of rows that were agreed on.
-fn three_trees(
-    alloc: Global,
-    widths: &Widths,
-    column: u8,
-    agreed: &Agreed,
-) -> Result<Trees, Memory>
+fn three_trees(alloc: Global, widths: &Widths, column: u8, agreed: &Agreed) -> Result<Trees, Memory>
     requires column { column < widths.now.columns }
     requires widths { agreed.now.widths ≡ widths.now }
     ensures zero { IfOk result (λ t. t.zero ≡ tree_over widths.now agreed.now.all column 0) }
