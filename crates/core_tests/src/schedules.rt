@@ -10,6 +10,7 @@ use std::process::Abort;
 use std::test::Fail;
 use std::thread::Threads;
 use table_schema::{Row, read_schema};
+use visit_trace::Trace;
 use waldo_words::Step::{self, Answer, Draw, Fix, Look, Place};
 use wire_line::{RecordWire, Shift, ShiftWire, Shifts, StraightWire, Wire};
 
@@ -171,12 +172,13 @@ fn play<R: Abort + Threads + Sync, W: Wire>(
         master: Seed { words: [0; 8] },
         workers: 2,
     };
+    let mut trace = Trace::new(alloc);
     match steps {
         Some(steps) => {
             assert!(rt; steps.len() <= 4096);
-            replay(rt, alloc, &setting, steps, wires)
+            replay(rt, alloc, &setting, steps, wires, &mut trace)
         }
-        None => ask(rt, alloc, &setting, wires),
+        None => ask(rt, alloc, &setting, wires, &mut trace),
     }
 }
 

@@ -12,6 +12,7 @@ use std::fmt::Write;
 use std::io;
 use std::process::ExitCode;
 use std::thread::Threads;
+use visit_trace::Trace;
 use waldo_run::run_still;
 use wire_line::{Message, Peer, RecordWire};
 
@@ -80,7 +81,16 @@ fn lines_of<R: Threads + Sync>(
     let mut source = MemorySource::new(alloc, rows.as_bytes(), &[])?;
     let mut sink = SureSink::new();
     let mut wires = record_wires(alloc)?;
-    run_still(rt, alloc, &words, &mut source, &mut sink, &mut wires);
+    let mut trace = Trace::new(alloc);
+    run_still(
+        rt,
+        alloc,
+        &words,
+        &mut source,
+        &mut sink,
+        &mut wires,
+        &mut trace,
+    );
     let mut lines = Vec::new(alloc);
     for (number, message) in wires[0].messages().iter().enumerate() {
         lines.push(line_of(alloc, number, message)?)?;

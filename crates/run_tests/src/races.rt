@@ -9,6 +9,7 @@ use std::sync::atomic::AtomicBool;
 use std::sync::atomic::Ordering::SeqCst;
 use std::test::Fail;
 use std::thread::{Threads, yield_now};
+use visit_trace::Trace;
 use waldo_run::{Gate, OpenGate, Point, run};
 
 const RACE: &str = "race|host:2|--query|count host=3|--writers|1|--askers|1";
@@ -95,9 +96,10 @@ fn raced<R: Abort + Threads + Wait + Sync, G: Gate + Sync>(
     let mut source = SureSource::new(alloc, input.as_bytes())?;
     let mut sink = MemorySink::new(alloc, 1000, &[])?;
     let mut wires = straight_wires(alloc)?;
+    let mut trace = Trace::new(alloc);
     assert_eq!(rt; wires.len(), 16);
     assert_eq!(rt;
-        run(rt, alloc, &list, &mut source, &mut sink, &mut wires, gate),
+        run(rt, alloc, &list, &mut source, &mut sink, &mut wires, &mut trace, gate),
         status,
         "{words}"
     );

@@ -5,6 +5,7 @@ use std::alloc::Global;
 use std::process::Abort;
 use std::test::Fail;
 use std::thread::Threads;
+use visit_trace::{Trace, same};
 use waldo_run::run_still;
 use wire_line::{RecordWire, Shift, ShiftWire, Shifts, StraightWire, Wire};
 
@@ -348,9 +349,10 @@ fn runs<R: Abort + Threads + Sync, W: Wire>(
     let list = words_of(alloc, words)?;
     let mut source = MemorySource::new(alloc, input.as_bytes(), reads)?;
     let mut sink = MemorySink::new(alloc, 1000, puts)?;
+    let mut trace = Trace::new(alloc);
     assert_eq!(rt; wires.len(), 16);
     assert_eq!(rt;
-        run_still(rt, alloc, &list, &mut source, &mut sink, wires),
+        run_still(rt, alloc, &list, &mut source, &mut sink, wires, &mut trace),
         status,
         "{words}"
     );
@@ -552,9 +554,10 @@ fn an_interval_of_a_day(rt: HostRuntime) -> Result<(), Fail> {
         .ok_or("memory")?;
     let mut sink = MemorySink::new(alloc, 1000, &[]).ok().ok_or("memory")?;
     let mut wires = straight_wires(alloc).ok().ok_or("memory")?;
+    let mut trace = Trace::new(alloc);
     assert_eq!(&rt; wires.len(), 16);
     assert_eq!(&rt;
-        run_still(&rt, alloc, &words, &mut source, &mut sink, &mut wires),
+        run_still(&rt, alloc, &words, &mut source, &mut sink, &mut wires, &mut trace),
         0
     );
     assert!(&rt; sink.bytes() == b"ask 0 rows 200 sum 453\n".as_slice());
@@ -570,25 +573,26 @@ fn hosts(alloc: Global, rows: u64) -> Result<String, Memory> {
     Ok(text)
 }
 
-// The words over these rows put this text.
+// The words over these rows put this text. What the servers see of the queries.
 fn answers<R: Abort + Threads + Sync>(
     rt: &R,
     alloc: Global,
     words: &str,
     input: &str,
     text: &str,
-) -> Result<(), Memory> {
+) -> Result<Trace, Memory> {
     let list = words_of(alloc, words)?;
     let mut source = SureSource::new(alloc, input.as_bytes())?;
     let mut sink = MemorySink::new(alloc, 1000, &[])?;
     let mut wires = straight_wires(alloc)?;
+    let mut trace = Trace::new(alloc);
     assert_eq!(rt; wires.len(), 16);
     assert_eq!(rt;
-        run_still(rt, alloc, &list, &mut source, &mut sink, &mut wires),
+        run_still(rt, alloc, &list, &mut source, &mut sink, &mut wires, &mut trace),
         0
     );
     assert!(rt; sink.bytes() == text.as_bytes(), "{words}");
-    Ok(())
+    Ok(trace)
 }
 
 // One chunk, and one row more, scanned in one part and in 16.
@@ -650,6 +654,38 @@ fn traces(rt: HostRuntime) -> Result<(), Fail> {
     Ok(())
 }
 
+// Two queries of one shape, over other values: the servers see the same of them. Each run visits two chunks of one column and then of
+// the values' column.
+#[test]
+fn seen_alike(rt: HostRuntime) -> Result<(), Fail> {
+    let alloc = rt.alloc();
+    let cases = [
+        (
+            "ask|host:2|--query|sum host=0..1",
+            "0,0",
+            "ask 0 rows 65 sum 0\n",
+        ),
+        (
+            "ask|host:2|--query|sum host=2..3",
+            "3,2",
+            "ask 0 rows 65 sum 130\n",
+        ),
+    ];
+    let mut traces = Vec::new(alloc);
+    for (words, row, text) in cases {
+        let input = rows_alike(alloc, 65, row).ok().ok_or("memory")?;
+        let trace = answers(&rt, alloc, words, &input, text)
+            .ok()
+            .ok_or("memory")?;
+        traces.push(trace)?;
+    }
+    assert_eq!(&rt; traces.len(), 2);
+    assert!(&rt; same(&traces[0], &traces[1]));
+    assert_eq!(&rt; traces[0].visits(2).len(), 8);
+    assert_eq!(&rt; traces[0].lengths(2).len(), 7);
+    Ok(())
+}
+
 #[test]
 fn a_host_that_is_no_text(rt: HostRuntime) -> Result<(), Fail> {
     let alloc = rt.alloc();
@@ -660,9 +696,10 @@ fn a_host_that_is_no_text(rt: HostRuntime) -> Result<(), Fail> {
     let mut source = SureSource::new(alloc, &bytes).ok().ok_or("memory")?;
     let mut sink = MemorySink::new(alloc, 1000, &[]).ok().ok_or("memory")?;
     let mut wires = straight_wires(alloc).ok().ok_or("memory")?;
+    let mut trace = Trace::new(alloc);
     assert_eq!(&rt; wires.len(), 16);
     assert_eq!(&rt;
-        run_still(&rt, alloc, &words, &mut source, &mut sink, &mut wires),
+        run_still(&rt, alloc, &words, &mut source, &mut sink, &mut wires, &mut trace),
         5
     );
     assert!(&rt; sink.bytes() == b"waldo: record 2 Text\n".as_slice());
@@ -678,9 +715,10 @@ fn a_byte_too_many(rt: HostRuntime) -> Result<(), Fail> {
     let mut source = SureSource::new(alloc, &bytes).ok().ok_or("memory")?;
     let mut sink = MemorySink::new(alloc, 1000, &[]).ok().ok_or("memory")?;
     let mut wires = straight_wires(alloc).ok().ok_or("memory")?;
+    let mut trace = Trace::new(alloc);
     assert_eq!(&rt; wires.len(), 16);
     assert_eq!(&rt;
-        run_still(&rt, alloc, &words, &mut source, &mut sink, &mut wires),
+        run_still(&rt, alloc, &words, &mut source, &mut sink, &mut wires, &mut trace),
         5
     );
     assert!(&rt; sink.bytes() == b"waldo: input too long\n".as_slice());

@@ -6,6 +6,7 @@ use std::alloc::Global;
 use std::process::Abort;
 use std::test::Fail;
 use std::thread::Threads;
+use visit_trace::Trace;
 use waldo_run::run_still;
 use wire_line::RecordWire;
 
@@ -152,8 +153,9 @@ fn tampers<R: Abort + Threads + Sync>(
     let mut source = MemorySource::new(alloc, input.as_bytes(), &[])?;
     let mut sink = MemorySink::new(alloc, 1000, &[])?;
     let mut wires = straight_wires(alloc)?;
+    let mut trace = Trace::new(alloc);
     assert_eq!(rt; wires.len(), 16);
-    let status = run_still(rt, alloc, &list, &mut source, &mut sink, &mut wires);
+    let status = run_still(rt, alloc, &list, &mut source, &mut sink, &mut wires, &mut trace);
     Ok((status, sink))
 }
 
@@ -198,8 +200,9 @@ fn the_wire_below_is_not_shifted(rt: HostRuntime) -> Result<(), Fail> {
         .ok()
         .ok_or("memory")?;
     let mut sink = MemorySink::new(alloc, 1000, &[]).ok().ok_or("memory")?;
+    let mut trace = Trace::new(alloc);
     assert_eq!(rt;
-        run_still(&rt, alloc, &list, &mut source, &mut sink, &mut wires),
+        run_still(&rt, alloc, &list, &mut source, &mut sink, &mut wires, &mut trace),
         7
     );
     assert_eq!(rt; wires.len(), 16);

@@ -2,7 +2,6 @@
 use Rattle.std.proofs.Common.{◌≡◌, ◌∙◌, refl, sym, ap, subst, ℕ, List, [], ◌∷◌, map}
 use Rattle.query_plan.specs.Query.{shaped}
 use Rattle.query_plan.specs.declared.query.Query.{Query}
-use Rattle.scan_chunks.specs.declared.visit.Visit.{Visit}
 use Rattle.table_schema.specs.declared.shapes.Shape.{Shape}
 use Rattle.table_schema.specs.declared.widths.Widths.{Widths}
 use Rattle.visit_trace.specs.Seen.{AllSeen, Grew, SawMore, Seen}
@@ -21,7 +20,7 @@ by_shapes w n (q ∷ qs) = ap (λ (zs : List Sizes). of_shape w n (shaped q) ∷
 -- one server, and all three, that saw the same more
 same_seen : (a b d p : Seen) → SawMore a b p → SawMore a d p → b ≡ d
 same_seen a b d p f g =
-    ap (λ (v : List Visit). record { visits = v; lengths = b.lengths }) (f.visits ∙ sym g.visits)
+    ap (λ v. record { visits = v; lengths = b.lengths }) (f.visits ∙ sym g.visits)
     ∙ ap (λ (l : List ℕ). record { visits = d.visits; lengths = l }) (f.lengths ∙ sym g.lengths)
 
 same_all : (a b d p : AllSeen) → Grew a b p → Grew a d p → b ≡ d

@@ -5,7 +5,6 @@ use Rattle.visit_trace.specs.Expected.{trace_of}
 use Rattle.visit_trace.specs.Growing.{grew_both, prefix_begun, prefix_cut, seen_then, then_at}
 use Rattle.visit_trace.specs.Seen.{AllSeen, Grew, GrewPrefix, Seen, alike, nothing}
 use Rattle.visit_trace.specs.declared.sizes.Sizes.{Sizes}
-use Rattle.scan_chunks.specs.declared.visit.Visit.{Visit}
 use Rattle.waldo_core.specs.Core.{Core}
 use Rattle.waldo_core.specs.declared.events.Event.{Event}
 use Rattle.waldo_words.specs.declared.schedule.Step.{Step}
@@ -24,7 +23,7 @@ use Rattle.schedule_play.proofs.Alike.{AreAlike, AlikeAfter, alike_itself, event
 
 then_joins : (p q r : Seen) → then_at (then_at p q) r ≡ then_at p (then_at q r)
 then_joins p q r =
-    ap (λ (v : List Visit). record { visits = v; lengths = (p.lengths ++ q.lengths) ++ r.lengths }) (append_assoc p.visits q.visits r.visits)
+    ap (λ v. record { visits = v; lengths = (p.lengths ++ q.lengths) ++ r.lengths }) (append_assoc p.visits q.visits r.visits)
     ∙ ap (λ (l : List ℕ). record { visits = p.visits ++ (q.visits ++ r.visits); lengths = l }) (append_assoc p.lengths q.lengths r.lengths)
 
 seen_joins : (p q r : AllSeen) → seen_then (seen_then p q) r ≡ seen_then p (seen_then q r)
@@ -37,13 +36,13 @@ pub traces_both : (xs ys : List Sizes) → traces_of (xs ++ ys) ≡ seen_then (t
 traces_both [] ys = refl
 traces_both (z ∷ zs) ys = ap (seen_then (trace_of z)) (traces_both zs ys) ∙ sym (seen_joins (trace_of z) (traces_of zs) (traces_of ys))
 
-then_nothing : (v : List Visit) (l : List ℕ) → then_at (record { visits = v; lengths = l }) nothing ≡ record { visits = v; lengths = l }
-then_nothing v l =
-    ap (λ (u : List Visit). record { visits = u; lengths = l ++ [] }) (append-nil v) ∙ ap (λ (m : List ℕ). record { visits = v; lengths = m }) (append-nil l)
+then_nothing : (s : Seen) → then_at s nothing ≡ s
+then_nothing s =
+    ap (λ v. record { visits = v; lengths = s.lengths ++ [] }) (append-nil s.visits) ∙ ap (λ (l : List ℕ). record { visits = s.visits; lengths = l }) (append-nil s.lengths)
 
 -- a single trace
 pub traces_single : (z : Sizes) → traces_of (z ∷ []) ≡ trace_of z
-traces_single z = ap alike (then_nothing (trace_of z).zero.visits (trace_of z).zero.lengths)
+traces_single z = ap alike (then_nothing (trace_of z).zero)
 
 -- more traces behind a prefix
 pub prefix_more : (xs ys : List Sizes) (a b : AllSeen) → GrewPrefix a b (traces_of xs) → GrewPrefix a b (traces_of (xs ++ ys))

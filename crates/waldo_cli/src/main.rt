@@ -15,6 +15,7 @@ use ring128::Memory;
 use std::alloc::Global;
 use std::process::ExitCode;
 use std::{env, io};
+use visit_trace::Trace;
 use waldo_run::{OpenGate, run};
 use wire_line::StraightWire;
 
@@ -57,6 +58,7 @@ fn main(rt: HostRuntime) -> ExitCode {
     };
     let mut source = Reading::new(rt.stdin());
     let mut sink = Writing::new(rt.stdout());
+    let mut trace = Trace::new(rt.alloc());
     let status = run(
         &rt,
         rt.alloc(),
@@ -64,6 +66,7 @@ fn main(rt: HostRuntime) -> ExitCode {
         &mut source,
         &mut sink,
         &mut wires,
+        &mut trace,
         &OpenGate,
     );
     ExitCode::from(status)

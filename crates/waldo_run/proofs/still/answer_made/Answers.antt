@@ -7,6 +7,7 @@ use Rattle.waldo_words.specs.declared.command.Command.TheVariants as commands
 use Rattle.waldo_run.specs.Made.{made_row, made_rows}
 use Rattle.waldo_run.specs.Tasks.{bits_of, common_in, rows_made}
 use Rattle.waldo_run.proofs.Begun.{none_answers, rows_answers}
+use Rattle.waldo_run.proofs.Growing.{none_sees, rows_see}
 use Rattle.waldo_run.specs.Tampered.{shifts_of}
 use Rattle.waldo_run.proofs.Tampering.{still_carried}
 use Rattle.waldo_run.proofs.still.answer_made.Goals as goal
@@ -32,3 +33,17 @@ returns-clause-answers g c =
     let made : rows_made command ≡ made_rows (bits_of (common_in command)) c.args.number c.args.count = ap rows_made c.requires.made in
     let same : rows_made command ≡ c.in_ok-rows.rows.items = made ∙ ap (λ (b : List ℕ). made_rows b c.args.number c.args.count) (sym bits) ∙ sym c.in_ok-rows.ensures.rows in
     rows_answers command c.in_ok-rows.rows.items (Ok (rows_made command)) _ _ h.0 (ap Ok same) h.1 c.answer_rows.result h.2 h.3
+
+pub returns-in_err-rows-clause-trace : goal.returns-in_err-rows-clause-trace
+returns-in_err-rows-clause-trace g c =
+    none_sees c.args.command.now c.widths-widths.result (search rules) (Ok (rows_made c.args.command.now)) c.args.trace.now c.from_residual.result (search rules)
+
+pub returns-clause-trace : goal.returns-clause-trace
+returns-clause-trace g c =
+    let command = c.args.command.now in
+    let h = rw c.deref.ensures.value at c.answer_rows.ensures.trace in
+    let bits : column_bits c.widths-widths.result ≡ bits_of (common_in command) = search rules in
+    let made : rows_made command ≡ made_rows (bits_of (common_in command)) c.args.number c.args.count = ap rows_made c.requires.made in
+    let same : rows_made command ≡ c.in_ok-rows.rows.items = made ∙ ap (λ (b : List ℕ). made_rows b c.args.number c.args.count) (sym bits) ∙ sym c.in_ok-rows.ensures.rows in
+    rows_see command c.widths-widths.result (search rules) c.in_ok-rows.rows.items (Ok (rows_made command)) (ap Ok same)
+    c.args.trace.now c.answer_rows.new.trace c.answer_rows.result h

@@ -2,6 +2,7 @@ use Rattle.std.proofs.Common.{inr}
 use Rattle.std.specs.Prelude.{◌≡◌, List, IfSome, Ok, map, string_bytes}
 use Rattle.table_schema.specs.declared.rows.Row.{Row}
 use Rattle.waldo_words.specs.declared.command.Command.{Command}
+use Rattle.waldo_run.specs.Grown.{Traces}
 use Rattle.waldo_run.specs.Headline.{AsksOver, plain_answers}
 use Rattle.waldo_run.specs.Run.{Breaks, Puts, Runs, plain_reply}
 use Rattle.waldo_run.specs.Tampered.{AltersNothing, CarriedBy, UnalteredBy}
@@ -40,3 +41,8 @@ returns-else-begin_race-clause-asked g c = λ other done sure still.
     by_other (λ command. (said : Command) (rows : List Row) → command ≡ Ok said → AsksOver said (g.S.Source.sight.bytes c.args.source.now) rows
     → Puts (plain_answers (common_in said).queries rows) (change g.K.Sink.sight c.args.sink.now c.run_still.new.sink) c.run_still.result)
     (map string_bytes c.args.words.now) other (c.run_still.ensures.asked done sure still)
+
+pub returns-else-begin_race-clause-trace : goal.returns-else-begin_race-clause-trace
+returns-else-begin_race-clause-trace g c = λ other.
+    by_other (λ command. Traces command (change g.S.Source.sight c.args.source.now c.run_still.new.source) c.args.trace.now c.run_still.new.trace c.run_still.result)
+    (map string_bytes c.args.words.now) other c.run_still.ensures.trace
