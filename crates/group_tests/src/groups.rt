@@ -97,7 +97,7 @@ fn shelf(
     Ok(shelves)
 }
 
-// The keys of a query for the buckets up to `high`, or for that bucket alone; with two predicates the second one lets all rows pass.
+// The keys of a query for the buckets up to `high`, or for that bucket alone.
 fn keys<R: Abort>(
     rt: &R,
     alloc: Global,
@@ -105,7 +105,6 @@ fn keys<R: Abort>(
     aggregate: Aggregate,
     kind: Kind,
     high: u8,
-    count: u8,
 ) -> Result<Keys, Memory>
     ensures widths { IfOk result (λ k. k.widths ≡ widths.now) }
 {
@@ -116,17 +115,10 @@ fn keys<R: Abort>(
         low,
         high,
     };
-    let all = Predicate {
-        column: 0,
-        kind: Kind::AtMost,
-        low: 0,
-        high: 3,
-    };
-    let second = if count == 2 { all } else { BLANK };
     let query = Query {
         aggregate,
-        count,
-        predicates: [first, second, BLANK, BLANK],
+        count: 1,
+        predicates: [first, BLANK, BLANK, BLANK],
     };
     assert!(rt; query.suits(widths));
     make_keys(alloc, &query, widths, &Seed { words: [9; 8] })
@@ -165,7 +157,7 @@ fn ask<R: Threads + Sync, W: Wire>(
 fn a_sum_by_bucket(rt: HostRuntime) -> Result<(), Memory> {
     let alloc = rt.alloc();
     let widths = FOUR;
-    let keys = keys(&rt, alloc, &widths, Aggregate::Sum, Kind::AtMost, 3, 1)?;
+    let keys = keys(&rt, alloc, &widths, Aggregate::Sum, Kind::AtMost, 3)?;
     let mut wire = RecordWire::new(alloc);
     let mut trace = Trace::new(alloc);
     let totals = ask(
@@ -192,7 +184,7 @@ fn good(total: u64) -> GroupAnswer {
 fn a_server_sees_sizes(rt: HostRuntime) -> Result<(), Memory> {
     let alloc = rt.alloc();
     let widths = FOUR;
-    let keys = keys(&rt, alloc, &widths, Aggregate::Sum, Kind::Point, 3, 1)?;
+    let keys = keys(&rt, alloc, &widths, Aggregate::Sum, Kind::Point, 3)?;
     let mut wire = RecordWire::new(alloc);
     let mut trace = Trace::new(alloc);
     let _totals = ask(
@@ -215,12 +207,12 @@ fn a_server_sees_sizes(rt: HostRuntime) -> Result<(), Memory> {
     Ok(())
 }
 
-// Two predicates: one product more in each run, and no message for the values where rows are counted.
+// Where rows are counted, no message goes around for the values.
 #[test]
-fn a_count_of_two_predicates(rt: HostRuntime) -> Result<(), Memory> {
+fn a_count_by_bucket(rt: HostRuntime) -> Result<(), Memory> {
     let alloc = rt.alloc();
     let widths = FOUR;
-    let keys = keys(&rt, alloc, &widths, Aggregate::Count, Kind::AtMost, 1, 2)?;
+    let keys = keys(&rt, alloc, &widths, Aggregate::Count, Kind::AtMost, 1)?;
     let mut wire = RecordWire::new(alloc);
     let mut trace = Trace::new(alloc);
     let totals = ask(
@@ -230,7 +222,7 @@ fn a_count_of_two_predicates(rt: HostRuntime) -> Result<(), Memory> {
     let weighted: &[u128] = &[0, keys.key(), 0, 0];
     assert!(rt; totals.total.as_slice() == wanted);
     assert!(rt; totals.weighted.as_slice() == weighted);
-    assert_eq!(rt; wire.messages().len(), 27);
+    assert_eq!(rt; wire.messages().len(), 15);
     Ok(())
 }
 
@@ -239,7 +231,7 @@ fn a_count_of_two_predicates(rt: HostRuntime) -> Result<(), Memory> {
 fn a_column_of_eight_bits(rt: HostRuntime) -> Result<(), Memory> {
     let alloc = rt.alloc();
     let widths = MANY;
-    let keys = keys(&rt, alloc, &widths, Aggregate::Sum, Kind::AtMost, 255, 1)?;
+    let keys = keys(&rt, alloc, &widths, Aggregate::Sum, Kind::AtMost, 255)?;
     let mut cells = vec![in alloc; 0; 512]?;
     cells[255] = 1;
     cells[256] = 1;
@@ -270,7 +262,7 @@ fn a_column_of_eight_bits(rt: HostRuntime) -> Result<(), Memory> {
 fn an_empty_table(rt: HostRuntime) -> Result<(), Memory> {
     let alloc = rt.alloc();
     let widths = FOUR;
-    let keys = keys(&rt, alloc, &widths, Aggregate::Count, Kind::Point, 3, 1)?;
+    let keys = keys(&rt, alloc, &widths, Aggregate::Count, Kind::Point, 3)?;
     let mut wire = RecordWire::new(alloc);
     let mut trace = Trace::new(alloc);
     let totals = ask(&rt, alloc, &keys, 0, 4, &[], &[], &mut wire, &mut trace)?;
@@ -287,7 +279,7 @@ fn an_empty_table(rt: HostRuntime) -> Result<(), Memory> {
 fn an_altered_bucket_is_refused_alone(rt: HostRuntime) -> Result<(), Memory> {
     let alloc = rt.alloc();
     let widths = FOUR;
-    let keys = keys(&rt, alloc, &widths, Aggregate::Sum, Kind::AtMost, 3, 1)?;
+    let keys = keys(&rt, alloc, &widths, Aggregate::Sum, Kind::AtMost, 3)?;
     let mut shifts = Shifts::new(alloc);
     shifts.push(Shift {
         message: 9,
