@@ -9,15 +9,17 @@ END {
   }
 }
 
-function draw(query,    b, end, margin) {
+function draw(query,    b, end, margin, line) {
   end = scale_end(query)
   margin = length("bucket " (buckets[query] - 1))
   print title(query)
   for (b = 0; b < buckets[query]; b++) {
-    if ((query, b) in refused) printf "%-*s | refused: the check found it altered\n", margin, "bucket " b
-    else printf "%-*s |%s %s\n", margin, "bucket " b, bar(total[query, b] + 0, end), total[query, b]
+    line = padded("bucket " b, margin) " |"
+    if ((query, b) in refused) print line " refused: the check found it altered"
+    else print line bar(total[query, b] + 0, end) " " total[query, b]
   }
-  printf "%*s +%s+%s+\n", margin, "", repeated("-", wide / 2 - 1), repeated("-", wide / 2 - 1)
+  line = repeated("-", wide / 2 - 1)
+  print padded("", margin) " +" line "+" line "+"
   print_scale(margin, end)
 }
 
@@ -28,9 +30,9 @@ function bar(number, end,    long) {
   return repeated("#", long)
 }
 
-# 0, the half where it is whole, and the end; a scale to 1 has no half.
+# 0, the half and the end; a scale to 1 has no half.
 function print_scale(margin, end,    half, line) {
-  line = sprintf("%*s 0", margin, "")
+  line = padded("", margin) " 0"
   half = end == 1 ? "" : end == 5 ? "2.5" : sprintf("%.0f", end / 2)
   line = centred(line, half, margin + 1 + wide / 2)
   line = centred(line, sprintf("%.0f", end), margin + 1 + wide)
@@ -39,7 +41,12 @@ function print_scale(margin, end,    half, line) {
 
 function centred(line, text, at) {
   if (text == "") return line
-  return sprintf("%-*s", at - int(length(text) / 2), line) text
+  return padded(line, at - int(length(text) / 2)) text
+}
+
+function padded(text, long) {
+  while (length(text) < long) text = text " "
+  return text
 }
 
 function repeated(letter, number,    text) {

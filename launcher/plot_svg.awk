@@ -14,11 +14,11 @@ END {
 
 function draw(query, from,    b, end) {
   end = scale_end(query)
-  print text(left + wide / 2, from - 22, "middle", title(query), " font-size=\"16\"")
+  print label(left + wide / 2, from - 22, "middle", title(query), " font-size=\"16\"")
   draw_scale(query, from, end)
   for (b = 0; b < buckets[query]; b++) draw_bucket(query, b, from, end)
   printf "<path d=\"M%d %dV%dH%d\" fill=\"none\" stroke=\"#222\"/>\n", left, from, from + high, left + wide
-  print text(left + wide / 2, from + high + 42, "middle", "bucket", "")
+  print label(left + wide / 2, from + high + 42, "middle", "bucket", "")
 }
 
 # Lines across the chart at quarters of the scale, each with its number where it is whole.
@@ -26,9 +26,9 @@ function draw_scale(query, from, end,    i, at) {
   for (i = 0; i <= 4; i++) {
     at = from + high - i * high / 4
     if (i > 0) printf "<path d=\"M%d %dH%d\" stroke=\"#ddd\"/>\n", left, at, left + wide
-    if (end * i % 4 == 0) print text(left - 8, at + 4, "end", sprintf("%.0f", end / 4 * i), "")
+    if (end * i % 4 == 0) print label(left - 8, at + 4, "end", sprintf("%.0f", end / 4 * i), "")
   }
-  print text(20, from + high / 2, "start", sort[query] == "" ? "total" : sort[query], "")
+  print label(20, from + high / 2, "start", sort[query] == "" ? "total" : sort[query], "")
 }
 
 function draw_bucket(query, bucket, from, end,    step, at, tall) {
@@ -36,15 +36,15 @@ function draw_bucket(query, bucket, from, end,    step, at, tall) {
   at = left + bucket * step
   if ((query, bucket) in refused) {
     printf "<rect x=\"%.2f\" y=\"%d\" width=\"%.2f\" height=\"%d\" fill=\"#ccc\"><title>bucket %d: refused, the check found it altered</title></rect>\n", at + step / 8, from, step * 3 / 4, high, bucket
-    if (buckets[query] <= 16) print text(at + step / 2, from + high / 2, "middle", buckets[query] <= 8 ? "refused" : "?", "")
+    if (buckets[query] <= 16) print label(at + step / 2, from + high / 2, "middle", buckets[query] <= 8 ? "refused" : "?", "")
   } else {
     tall = (total[query, bucket] + 0) / end * high
     printf "<rect x=\"%.2f\" y=\"%.2f\" width=\"%.2f\" height=\"%.2f\" fill=\"#36c\"><title>bucket %d: %s</title></rect>\n", at + step / 8, from + high - tall, step * 3 / 4, tall, bucket, total[query, bucket]
-    if (7 * length(total[query, bucket]) < step) print text(at + step / 2, from + high - tall - 4, "middle", total[query, bucket], "")
+    if (7 * length(total[query, bucket]) < step) print label(at + step / 2, from + high - tall - 4, "middle", total[query, bucket], "")
   }
-  if (bucket % (buckets[query] <= 32 ? 1 : 16) == 0) print text(at + step / 2, from + high + 20, "middle", bucket, "")
+  if (bucket % (buckets[query] <= 32 ? 1 : 16) == 0) print label(at + step / 2, from + high + 20, "middle", bucket, "")
 }
 
-function text(x, y, anchor, words, more) {
+function label(x, y, anchor, words, more) {
   return sprintf("<text x=\"%.2f\" y=\"%.2f\" text-anchor=\"%s\"%s>%s</text>", x, y, anchor, more, words)
 }

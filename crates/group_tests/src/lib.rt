@@ -1,0 +1,5 @@
+//! Tests of totals by the buckets of a column, over public items alone.
+#![tactic(auto)]
+
+#[cfg(test)]
+mod groups;
