@@ -30,7 +30,7 @@ done <<'LINES'
 ./waldo plot -|--svg
 ./waldo rep|replay
 ./waldo r|race,replay
-./waldo t|tamper,trace
+./waldo t|tamper,trace,tree
 ./waldo help r|race,replay,rows
 ./waldo x|
 ./waldo help mak|make
@@ -66,6 +66,9 @@ done <<'LINES'
 ./waldo tamper host:2 --|--capacity,--query,--seed,--shift,--workers
 ./waldo tamper host:2 --query "count host=3" --shift 6:0:1 --|--capacity,--seed,--shift,--workers
 ./waldo tamper host:2 --shift |
+./waldo tre|tree
+./waldo tree host:2 --|--capacity,--from,--query,--seed,--to,--workers
+./waldo tree host:2 --query "count host=3" --from 1 --|--capacity,--seed,--to,--workers
 ./waldo ask host:2,load:4@0/10 --query "|count host<=,count host=,count load<=,count load=,sum host<=,sum host=,sum load<=,sum load=
 ./waldo ask host:2,load:4@0/10 --query "s|sum host<=,sum host=,sum load<=,sum load=
 ./waldo ask host:2,load:4@0/10 --query "count l|count load<=,count load=

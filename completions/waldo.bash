@@ -46,7 +46,7 @@ _waldo_options() {
   for option in $(_waldo_lines | awk -v command="$1" '$1 == "option" && $2 == command { print $3 }'); do
     seen=0
     for word in "${@:2}"; do [[ ${word%%=*} == "$option" ]] && ((seen++)); done
-    if ((seen == 0)) || [[ ($option == --shift || $option == --query && $1 != tamper) && $seen -lt 16 ]]; then echo "$option"; fi
+    if ((seen == 0)) || [[ ($option == --shift || $option == --query && $1 != @(tamper|tree)) && $seen -lt 16 ]]; then echo "$option"; fi
   done
 }
 

@@ -9,6 +9,9 @@ explain_rows() {
     'waldo: more rows than '*)
       tell messages "the input has more rows than ${text##* }, the capacity; the schema has room for $(room)"
       ;;
+    'waldo: fewer rows than '*)
+      tell tree "the range ends at place ${text##* }, and the input has fewer rows; --to is at most the number of rows"
+      ;;
     'waldo: input too long') tell messages "the input has more than 16777216 bytes; ask over a part of it" ;;
     'waldo: record '*)
       read -r _ _ index why <<<"$text"

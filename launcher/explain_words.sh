@@ -56,9 +56,9 @@ explain_option() {
   fi
 }
 
-# The options that may stand up to 16 times: queries, of which a command that alters messages has one, and shifts.
+# The options that may stand up to 16 times: queries, of which two commands have one, and shifts.
 may_repeat() { # command, option
-  [[ $2 == --shift || $2 == --query && $1 != tamper ]]
+  [[ $2 == --shift || $2 == --query && $1 != tamper && $1 != tree ]]
 }
 
 # What somebody may have meant who wrote no option.
@@ -93,6 +93,7 @@ explain_value() { # option, value
     --query)
       . "$home/launcher/explain_query.sh"
       why=$(query_fault "$value")
+      [ "${words[0]}" != tree ] || why=${why:-tree asks a count with one predicate}
       tell queries "$start: ${why:-it is no query}"
       ;;
     --schedule)
@@ -101,6 +102,7 @@ explain_value() { # option, value
       ;;
     --seed) tell "${words[0]}" "$start: $(seed_fault "$value")" ;;
     --shift) tell "${words[0]}" "$start: $(shift_fault "$value")" ;;
+    --to) tell "${words[0]}" "$start: $(end_fault "$value")" ;;
     *) tell "${words[0]}" "$start: $(number_fault "$option" "$value")" ;;
   esac
 }
@@ -128,6 +130,15 @@ shift_fault() {
     printf 'the number that is added has 1 to 39 digits, also behind key*, and %s has others' "$(quoted "$amount")"
   else
     printf 'the number that is added has 1 to 39 digits and is below 2^128'
+  fi
+}
+
+# The end of a range that is a number within its limits lies before the beginning.
+end_fault() {
+  if [[ $1 =~ ^0*[0-9]{1,5}$ && ${#1} -le 20 ]] && ((10#$1 <= 65536)); then
+    printf 'the places end before they begin; --to is at least --from'
+  else
+    number_fault --to "$1"
   fi
 }
 

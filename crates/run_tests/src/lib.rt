@@ -7,3 +7,5 @@ mod races;
 mod runs;
 #[cfg(test)]
 mod tampers;
+#[cfg(test)]
+mod trees;

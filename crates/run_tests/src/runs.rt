@@ -19,7 +19,7 @@ const NOTHING_SAID: &str = "replay|host:2|--query|count host=3|--schedule|f0";
 const TIME: &str = "ask|time:8@1700000000/3600|--query|count time=1700000000";
 
 /// Words, an input, the status and the text that is put.
-type Case = (&'static str, &'static str, u8, &'static str);
+pub(crate) type Case = (&'static str, &'static str, u8, &'static str);
 
 const AGAIN: &str =
     "replay|host:2|--query|count host=3|--schedule|d0 p0.0 p0.1 d1 p1.0 p1.1 p1.2 f1 f1 f1";
@@ -315,7 +315,7 @@ fn record_wires(alloc: Global) -> Result<Vec<RecordWire>, Memory> {
 }
 
 // Sixteen wires that keep their messages, of which the first adds each amount to the first word of a message.
-fn shift_wires(
+pub(crate) fn shift_wires(
     alloc: Global,
     amounts: &[(u64, u128)],
 ) -> Result<Vec<ShiftWire<RecordWire>>, Memory> {
@@ -337,7 +337,7 @@ fn shift_wires(
 }
 
 // The status and the text of a run over these wires, of whose source and sink the reads and puts with these numbers fail.
-fn runs<R: Abort + Threads + Sync, W: Wire>(
+pub(crate) fn runs<R: Abort + Threads + Sync, W: Wire>(
     rt: &R,
     alloc: Global,
     case: &Case,
@@ -360,7 +360,7 @@ fn runs<R: Abort + Threads + Sync, W: Wire>(
     Ok(())
 }
 
-fn straight<R: Abort + Threads + Sync>(
+pub(crate) fn straight<R: Abort + Threads + Sync>(
     rt: &R,
     alloc: Global,
     case: &Case,
@@ -402,7 +402,7 @@ fn faults(rt: HostRuntime) -> Result<(), Fail> {
 }
 
 // The numbers of words of the messages of a run: those of the first wire, and none on the others.
-fn lengths<R: Abort + Threads + Sync>(
+pub(crate) fn lengths<R: Abort + Threads + Sync>(
     rt: &R,
     alloc: Global,
     case: &Case,
