@@ -1,7 +1,8 @@
 """What the program has to answer to words and input: the rules of docs/formats.md, plainly and slowly, with no code of the program.
 
 `expected` gives the outcome; `Outcome.fault` says what is wrong with a status and a text, or None. Words and input are bytes. Messages,
-keys and shares play no part: where nothing is altered each answer is the plain count or sum.
+keys and shares play no part: where nothing is altered each answer is the plain count or sum, and what `trace` prints follows from the
+sizes alone. `tamper`, whose text needs the key, is not known here.
 
 The records of an input are not read by Python's own `csv`, which differs from the kit's: it keeps a byte order mark, gives an empty
 record for an empty line, and refuses a carriage return inside an unquoted field and, in earlier versions, a byte of 0.
@@ -14,7 +15,8 @@ MOST_BYTES = 16_777_216
 MOST_CELLS = 4_194_304
 
 Column = collections.namedtuple("Column", "name bits start step")
-Query = collections.namedtuple("Query", "aggregate predicates")  # predicates: (column's number, low bucket, high bucket)
+Query = collections.namedtuple("Query", "aggregate predicates")
+Predicate = collections.namedtuple("Predicate", "column low high kind")  # a column's number, its lowest and highest bucket, a key's kind
 Command = collections.namedtuple("Command", "name columns queries options")
 
 
@@ -61,7 +63,7 @@ def read_schema(text):
 
 
 def read_predicate(piece, columns):
-    """The number of a column and its lowest and highest bucket; None where the piece is no predicate over these columns."""
+    """A predicate; None where the piece is none over these columns."""
     form = re.fullmatch(rb"([^<=]+)(<=|=)(.*)", piece, re.DOTALL)
     if not form:
         return None
@@ -74,7 +76,8 @@ def read_predicate(piece, columns):
     buckets = [bucket(columns[which], raw) for raw in numbers]
     if None in buckets:
         return None
-    return which, 0 if sign == b"<=" else buckets[0], buckets[1]
+    kind = "comparison" if sign == b"<=" else "interval" if dots else "point"
+    return Predicate(which, 0 if sign == b"<=" else buckets[0], buckets[1], kind)
 
 
 def read_query(text, columns):
@@ -82,7 +85,7 @@ def read_query(text, columns):
     if aggregate not in (b"count", b"sum") or not 1 <= len(pieces) <= 4:
         return None
     predicates = [read_predicate(piece, columns) for piece in pieces]
-    if None in predicates or len({which for which, _, _ in predicates}) < len(predicates):
+    if None in predicates or len({predicate.column for predicate in predicates}) < len(predicates):
         return None
     return Query(aggregate.decode(), predicates)
 
@@ -140,7 +143,10 @@ COMMANDS = {
     b"replay": ([b"--query", b"--schedule"], EVERY + [b"--schedule", b"--capacity"]),
     b"race": ([b"--query"], EVERY + [b"--writers", b"--askers", b"--rounds", b"--capacity"]),
     b"make": ([b"--query", b"--number", b"--rows"], EVERY + [b"--number", b"--rows"]),
+    b"trace": ([b"--query"], EVERY + [b"--capacity"]),
 }
+KEY_WORDS = {"point": (3, 3), "comparison": (3, 4), "interval": (6, 8)}  # how many words a key has, and how many more for each bit
+CHUNK = 64
 
 
 def bad_word(index):
@@ -273,9 +279,18 @@ def made_rows(columns, first, count):
 
 
 def answer(who, query, rows):
-    passing = [row for row in rows if all(low <= row[which] <= high for which, low, high in query.predicates)]
+    passing = [row for row in rows if all(p.low <= row[p.column] <= p.high for p in query.predicates)]
     total = sum(row[-1] for row in passing) if query.aggregate == "sum" else len(passing)
     return f"{who} rows {len(rows)} {query.aggregate} {total}\n"
+
+
+def traced(index, query, columns, count):
+    """What each server sees of a query over `count` rows: visits of chunks, and words that are sent or received."""
+    lists = len(query.predicates) + (query.aggregate == "sum")
+    visits = 2 * lists * -(-count // CHUNK)
+    keys = sum(KEY_WORDS[p.kind][0] + KEY_WORDS[p.kind][1] * columns[p.column].bits for p in query.predicates)
+    words = 4 + 4 * keys + 2 * (2 * count * (2 * len(query.predicates) - 1) + 1)
+    return "".join(f"trace {index} server {server} visits {visits} words {words}\n" for server in range(3))
 
 
 def prefix(places):
@@ -354,7 +369,7 @@ def replayed(steps, rows, queries):
 
 def plain_query(query, columns):
     """A query over buckets, as `race_text` reads it."""
-    return " ".join([query.aggregate, *(f"{columns[which].name.decode()}={low}..{high}" for which, low, high in query.predicates)])
+    return " ".join([query.aggregate, *(f"{columns[p.column].name.decode()}={p.low}..{p.high}" for p in query.predicates)])
 
 
 class Outcome:
@@ -398,6 +413,8 @@ def done(command, data):
         queries = [plain_query(query, command.columns) for query in command.queries]
         counts = [options.get(name, usual) for name, usual in ((b"--writers", 2), (b"--askers", 2), (b"--rounds", 1))]
         return Outcome(0, race=(names, rows, *counts, queries))
+    if command.name == b"trace":
+        return Outcome(0, "".join(traced(i, query, command.columns, len(rows)) for i, query in enumerate(command.queries)).encode())
     return Outcome(0, "".join(answer(f"ask {i}", query, rows) for i, query in enumerate(command.queries)).encode())
 
 

@@ -153,7 +153,7 @@ def spoil_words(chance, words):
 def case_of(seed, number):
     """Words and an input."""
     chance = Chance(f"{seed}/{number}")
-    name = chance.choice([b"ask"] * 4 + [b"replay"] * 5 + [b"make"] * 2 + [b"race"])
+    name = chance.choice([b"ask"] * 4 + [b"replay"] * 5 + [b"make"] * 2 + [b"race", b"trace"])
     columns = columns_of(chance)
     count = chance.choice([0, 1, 2, 3, 3, 4, 5, 6, 8, 12, 20])
     if chance.one_in(12):

@@ -24,6 +24,7 @@ use Rattle.list_facts.proofs.Prefixes.{prefix_length}
 use Rattle.waldo_table.proofs.Legal.{prefix_rises}
 use Rattle.waldo_table.specs.Asks.{rows_of}
 use Rattle.waldo_table.specs.Tables.{Agrees, Grows, IsCovered, PassView}
+use Rattle.race_play.specs.Askers.{AreAsked}
 use Rattle.race_play.specs.Questions.{AreAnswers, Gave, IsAnswer, Question, Opening, at_end, ends_of, first, in_round, messages_of, question_of, rounds_of}
 use Rattle.race_play.specs.Raced.{HasFirst}
 use Rattle.race_play.specs.Rounds.{Asks}
@@ -34,7 +35,7 @@ use Rattle.wire_line.specs.Sights.{Sight, NonePasses, BothPass}
 entries : Widths → List (Row × Seed) → Entries
 entries w all = record { widths = w; all = all }
 
-first_more : (w : Widths) (order more : List (Row × Seed)) (n : ℕ) → IsPrefix order more → n ≤ length order → first w more n ≡ first w order n
+pub first_more : (w : Widths) (order more : List (Row × Seed)) (n : ℕ) → IsPrefix order more → n ≤ length order → first w more n ≡ first w order n
 unfolding entries
 first_more w order more n p le = ap (entries w) (ap (take n) (sym p.1) ∙ take-append-le n order p.0 le)
 
@@ -55,6 +56,14 @@ module _ (w : Widths) (order more : List (Row × Seed)) (p : IsPrefix order more
   answers_more low (x ∷ xs) [] said high h = absurd h
   answers_more low (x ∷ xs) (t ∷ openings) [] high h = absurd h
   answers_more low (x ∷ xs) (t ∷ openings) (line ∷ said) high h = (h.0, answer_more w order more x t line p h.1, answers_more t.rows xs openings said high h.2)
+
+pub gave_more : (w : Widths) (order more : List (Row × Seed)) (low : ℕ) (xs : List Question) (ms : List Message) (said : List Line) → IsPrefix order more → Gave w order low xs ms said → Gave w more low xs ms said
+gave_more w order more low xs ms said p g = record { openings = g.openings; high = g.high; answers = answers_more w order more p low xs g.openings said g.high g.answers; messages = g.messages }
+
+module _ (w : Widths) (queries : List Query) (master : Seed) (rounds : ℕ) (order more : List (Row × Seed)) (p : IsPrefix order more) where
+  pub asked_more : (asker : ℕ) (sent : List (List Message)) (said : List Line) → AreAsked w queries master rounds order asker sent said → AreAsked w queries master rounds more asker sent said
+  asked_more asker [] said h = h
+  asked_more asker (ms ∷ sent) said h = (h.0, h.1, h.2, gave_more w order more 0 _ ms h.0 p h.3, asked_more (suc asker) sent h.1 h.4)
 
 module _ (w : Widths) (order : List (Row × Seed)) (x : Question) (t : Opening) (line : Line) (a : IsAnswer w order x t line) where
   pub answers_snoc : (low : ℕ) (xs : List Question) (openings : List Opening) (said : List Line) (high : ℕ) → AreAnswers w order low xs openings said high → high ≤ t.rows

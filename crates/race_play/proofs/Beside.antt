@@ -1,34 +1,24 @@
 -- Askers at once.
-use Rattle.std.proofs.Common.{◌≡◌, ◌∙◌, sym, ap, subst, ℕ, suc, ◌-◌, List, [], ◌∷◌, ◌++◌, arith}
+use Rattle.std.proofs.Common.{◌≡◌, ◌∙◌, sym, ap, subst, ℕ, suc, ◌-◌, List, ◌∷◌, ◌++◌, arith}
 use Rattle.std.specs.Prelude.{IfOk, Result, Ok, Err}
-use mathlib.Core.List.{IsPrefix}
 use Rattle.list_facts.proofs.Prefixes.{prefix_self}
 use Rattle.prg_chacha.specs.declared.seed.Seed.{Seed}
 use Rattle.query_plan.specs.declared.query.Query.{Query}
 use Rattle.report_lines.specs.declared.lines.Line.{Line}
 use Rattle.ring128.specs.declared.memory.Memory.{Memory}
-use Rattle.table_schema.specs.declared.rows.Row.{Row}
-use Rattle.table_schema.specs.declared.widths.Widths.{Widths}
 use Rattle.ticket_place.specs.Sights.{Seen}
-use Rattle.wire_line.specs.declared.message.Message.{Message}
 use Rattle.waldo_table.specs.Tables.{Grows, IsOf, PassView, TableView, fresh_pass, gathered}
 use Rattle.race_play.specs.Askers.{AreAsked}
+use Rattle.race_play.specs.Begun.{AreBegun}
 use Rattle.race_play.specs.Asking.{AsksAll, AsksOne}
-use Rattle.race_play.specs.Questions.{Gave, Question}
+use Rattle.race_play.specs.Questions.{Gave}
 use Rattle.race_play.specs.declared.setting.Crew.{Crew}
-use Rattle.race_play.proofs.Answering.{answers_more}
+use Rattle.race_play.proofs.Answering.{asked_more, gave_more}
+use Rattle.race_play.proofs.Breaking.{all_begun_more, began_more}
 use Rattle.race_play.proofs.Writing.{grows_trans}
 use Rattle.wire_line.specs.Sights.{Sight}
 
 -- ---- what was asked stays so as the order grows
-
-pub gave_more : (w : Widths) (order more : List (Row × Seed)) (low : ℕ) (xs : List Question) (ms : List Message) (said : List Line) → IsPrefix order more → Gave w order low xs ms said → Gave w more low xs ms said
-gave_more w order more low xs ms said p g = record { openings = g.openings; high = g.high; answers = answers_more w order more p low xs g.openings said g.high g.answers; messages = g.messages }
-
-module _ (w : Widths) (queries : List Query) (master : Seed) (rounds : ℕ) (order more : List (Row × Seed)) (p : IsPrefix order more) where
-  pub asked_more : (asker : ℕ) (sent : List (List Message)) (said : List Line) → AreAsked w queries master rounds order asker sent said → AreAsked w queries master rounds more asker sent said
-  asked_more asker [] said h = h
-  asked_more asker (ms ∷ sent) said h = (h.0, h.1, h.2, gave_more w order more 0 _ ms h.0 p h.3, asked_more (suc asker) sent h.1 h.4)
 
 -- ---- one asker beside those behind it
 
@@ -52,6 +42,16 @@ module _ {S : Type 0} (sight : Sight S) (t : TableView) (queries : List Query) (
         let b = ap (λ (x : PassView). x.sight.room) left in
         let c = all.room in omega arith;
     asked = (one.asked.0 ∷ all.asked.0, (one.asked.1, all.asked.1), said result joined, let n = all.asked.3 in omega arith);
+    begun = (
+      one.begun.0 ∷ all.begun.0,
+      (one.begun.1, all.begun.1),
+      (
+        began_more t.widths mine'.sight.order q'.sight.order joins.order 0 _ one.begun.0 one.begun.2,
+        subst (λ (n : ℕ). AreBegun t.widths queries master crew.rounds q'.sight.order n all.begun.0) is
+            (all_begun_more t.widths q.sight.order q'.sight.order grows.order queries master crew.rounds next all.begun.0 all.begun.2),
+      ),
+      let n = all.begun.3 in omega arith,
+    );
   }
     where
       said : (r : Result (List Line) Memory) → IfOk r (λ s. (own : List Line) × (more : List Line) × (first ≡ Ok own) × (others ≡ Ok more) × (s ≡ own ++ more))

@@ -2,6 +2,7 @@ pub mod Answering
 pub mod Asking
 pub mod Backs
 pub mod Beside
+pub mod Breaking
 pub mod Filling
 pub mod Gathering
 pub mod Ordering

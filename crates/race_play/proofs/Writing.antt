@@ -1,6 +1,10 @@
 -- A writer's rows, one after another.
 use Rattle.std.proofs.Common.{◌≡◌, ◌∙◌, refl, sym, ap, subst, ℕ, zero, suc, ◌+◌, ◌%◌, ◌<◌, ◌≤◌, Bool, true, false, Some, slice_get, List, [], ◌∷◌, ◌++◌, length, max, arith, append_assoc, append-nil, length-append, eq-eqb, ne_eqb, ◌≢◌, eqb, cond, ◌-◌}
+use Rattle.std.specs.Prelude.{OnErr, Result, Ok, Err}
 use mathlib.Core.List.{IsPrefix}
+use Rattle.agreed_rows.specs.Agreed.{Entries}
+use Rattle.ring128.specs.declared.memory.Memory.{Memory}
+use Rattle.waldo_table.specs.declared.faults.AgreeFault.{AgreeFault}
 use Rattle.list_facts.proofs.Prefixes.{prefix_length, prefix_trans}
 use Rattle.std.proofs.lemmas.Option.{slice_get_within}
 use Rattle.agreed_rows.proofs.Elements.{prefix_get}
@@ -10,7 +14,8 @@ use Rattle.table_schema.specs.declared.rows.Row.{Row}
 use Rattle.waldo_table.specs.Tables.{Appends, Grows, PassView}
 use Rattle.waldo_table.proofs.Legal.{has_more}
 use Rattle.race_play.specs.Turns.{IsRising, turns}
-use Rattle.race_play.specs.Writes.{AreEntries, AreThere, IsBack, IsEntry, IsThere, Wrote, Wrote_back, floor_over}
+use Rattle.race_play.specs.Lines.{line_of_back}
+use Rattle.race_play.specs.Writes.{AreEntries, AreThere, IsBack, IsEntry, IsThere, Wrote, WroteFirst, Wrote_back, floor_over}
 use Rattle.report_lines.specs.declared.lines.Line.{Line}
 
 -- ---- rising
@@ -147,3 +152,48 @@ wrote_back rows master w is p places line between q wrote grows own room back = 
 
 pub grows_trans : (p q r : PassView) → Grows p q → Grows q r → Grows p r
 grows_trans p q r f g = record { order = prefix_trans _ _ _ f.order g.order; zero = prefix_trans _ _ _ f.zero g.zero; one = prefix_trans _ _ _ f.one g.one; two = prefix_trans _ _ _ f.two g.two }
+
+-- ---- memory runs out
+
+turns_some : (w many k n more : ℕ) → n ≡ more + k → (rest : List ℕ) × (turns w many n ≡ turns w many k ++ rest)
+turns_some w many k n zero e = let z : n ≡ k = omega arith in ([], ap (turns w many) z ∙ sym (append-nil (turns w many k)))
+turns_some w many k n (suc more) e =
+    let m : ℕ = more + k in
+    let up : n ≡ suc m = omega arith in
+    let b = turns_some w many k m more refl in
+    let own : List ℕ = cond (eqb (m % many) w) (m ∷ []) [] in
+    (b.0 ++ own, ap (turns w many) up ∙ ap (λ (l : List ℕ). l ++ own) b.1 ∙ append_assoc (turns w many k) b.0 own)
+
+-- the rows of some first turns were appended
+pub wrote_first : (rows : List Row) (master : Seed) (w many k n : ℕ) (p : PassView) (places : List ℕ) (q : PassView) → k ≤ n → Wrote rows master w (turns w many k) p places q → WroteFirst rows master w (turns w many n) p q
+wrote_first rows master w many k n p places q le wrote =
+    let d : n ≡ (n - k) + k = omega arith in
+    let b = turns_some w many k n (n - k) d in
+    record { done = turns w many k; rest = b.0; all = b.1; places = places; wrote = wrote }
+
+-- all rows were appended, and the agreement behind them came to nothing
+pub wrote_alone : (rows : List Row) (master : Seed) (w : ℕ) (is : List ℕ) (p : PassView) (places : List ℕ) (between q : PassView) → Wrote rows master w is p places between → Grows between q → q.sight.own ≡ between.sight.own
+    → q.sight.room ≡ between.sight.room → q.floor ≡ between.floor → WroteFirst rows master w is p q
+wrote_alone rows master w is p places between q wrote grows own room floor = record {
+  done = is;
+  rest = [];
+  all = sym (append-nil is);
+  places = places;
+  wrote = record {
+    own = own ∙ wrote.own;
+    room = let r = wrote.room in omega arith;
+    entries = entries_more rows master w between.sight.order q.sight.order is places grows.order wrote.entries;
+    rising = wrote.rising;
+    there = all_there_more between q places grows wrote.there;
+    floor = floor ∙ wrote.floor;
+  };
+}
+
+-- no line of an agreement: it came to nothing
+pub back_err : (writer : ℕ) (agreed : Result Entries AgreeFault) (e : Memory) (P : Type 0) → OnErr agreed P → line_of_back writer agreed ≡ Err e → P
+back_err writer (Ok a) e P h is = absurd cc
+back_err writer (Err fault) e P h is = h
+
+pub on_err : {A E : Type 0} (r : Result A E) (P : Type 0) → P → OnErr r P
+on_err (Ok x) P p = tt
+on_err (Err e) P p = p

@@ -8,6 +8,7 @@ use Rattle.wire_line.specs.Messages.{Went}
 use Rattle.wire_line.specs.declared.message.Message.{Message}
 use Rattle.waldo_table.specs.Tables.{Grows, IsCovered, IsOf, PassView, TableView}
 use Rattle.race_play.specs.Askers.{AreAsked, WentEach}
+use Rattle.race_play.specs.Begun.{AreBegun, Began}
 use Rattle.race_play.specs.Questions.{Gave, rounds_of}
 use Rattle.race_play.specs.Settings.{AreLegal}
 use Rattle.race_play.specs.declared.setting.Crew.{Crew}
@@ -21,7 +22,7 @@ pub record CanAsk (t : TableView) (queries : List Query) (crew : Crew) (p : Pass
   pub legal : AreLegal t.widths queries
   pub some : 0 < crew.workers
 
--- the rounds of an asker, with its pass and its wire before and after
+-- the rounds of an asker, with its pass and its wire before and after; what was carried is said whether or not memory ran out
 pub record AsksOne {W : Type 0} (sight : Sight W)
     (t : TableView) (queries : List Query) (master : Seed) (crew : Crew) (asker : ℕ)
     (p q : PassView) (v w : W) (result : Result (List Line) Memory) : Type 0 where
@@ -30,6 +31,7 @@ pub record AsksOne {W : Type 0} (sight : Sight W)
   pub own : q.sight ≡ record p.sight { order = q.sight.order }
   pub asked : (ms : List Message) × Went sight v ms w
       × IfOk result (Gave t.widths q.sight.order 0 (rounds_of queries master asker crew.rounds) ms)
+  pub begun : (ms : List Message) × Went sight v ms w × Began t.widths q.sight.order 0 (rounds_of queries master asker crew.rounds) ms
 
 -- the askers from one on, with the pass from which theirs were split and into which they were gathered, and their wires
 pub record AsksAll {W : Type 0} (sight : Sight W)
@@ -41,4 +43,6 @@ pub record AsksAll {W : Type 0} (sight : Sight W)
   pub room : p.sight.room ≤ q.sight.room
   pub asked : (sent : List (List Message)) × WentEach sight sent vs ws
       × IfOk result (AreAsked t.widths queries master crew.rounds q.sight.order asker sent)
+      × (length sent + asker ≡ crew.askers)
+  pub begun : (sent : List (List Message)) × WentEach sight sent vs ws × AreBegun t.widths queries master crew.rounds q.sight.order asker sent
       × (length sent + asker ≡ crew.askers)

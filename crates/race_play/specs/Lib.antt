@@ -1,5 +1,6 @@
 pub mod Askers
 pub mod Asking
+pub mod Begun
 pub mod Filled
 pub mod Gathers
 pub mod Jobs

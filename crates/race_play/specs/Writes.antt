@@ -67,3 +67,11 @@ pub record Wrote_back (rows : List Row) (master : Seed) (writer : ℕ) (is : Lis
   pub entries : AreEntries rows master writer q.sight.order is places
   pub there : AreThere q places
   pub back : IsBack writer between q line
+
+-- Out of memory a writer has appended the first of its rows, and has agreed on nothing.
+pub record WroteFirst (rows : List Row) (master : Seed) (writer : ℕ) (is : List ℕ) (p q : PassView) : Type 0 where
+  pub done : List ℕ
+  pub rest : List ℕ
+  pub all : is ≡ done ++ rest
+  pub places : List ℕ
+  pub wrote : Wrote rows master writer done p places q

@@ -4,6 +4,7 @@ ghost use Rattle.wire_line.specs.Messages.{Went};
 ghost use Rattle.wire_line.specs.declared.message.Message.{Message};
 ghost use Rattle.waldo_table.specs.Tables.{Grows, IsOf};
 ghost use Rattle.race_play.specs.Asking.{AsksOne, CanAsk};
+ghost use Rattle.race_play.specs.Begun.{Began};
 ghost use Rattle.race_play.specs.Questions.{Gave, ends_of};
 ghost use Rattle.race_play.specs.Raced.{HasFirst};
 ghost use Rattle.race_play.specs.Settings.{AreLegal};
@@ -83,6 +84,8 @@ pub(crate) fn ask_ends<R: Threads + Wait + Sync, W: Wire>(
     ensures own { pass.new.sight ≡ record pass.old.sight { order = pass.new.sight.order } }
     ensures asked { (ms : List Message) × Went W.sight wire.old ms wire.new
         × IfOk result (Gave table.now.widths pass.new.sight.order rows (ends_of queries.now master.now (length queries.now)) ms) }
+    ensures begun { (ms : List Message) × Went W.sight wire.old ms wire.new
+        × Began table.now.widths pass.new.sight.order rows (ends_of queries.now master.now (length queries.now)) ms }
 {
     let mut said = Said::new(alloc);
     for q in 0..queries.len() {

@@ -4,6 +4,7 @@ ghost use Rattle.std.specs.List.{list_any};
 ghost use Rattle.wire_line.specs.Lists.{SomeRose};
 ghost use Rattle.wire_line.specs.declared.message.Message.{Message};
 ghost use Rattle.race_play.specs.Askers.{CarriedEach};
+ghost use Rattle.race_play.specs.Begun.{IsCarried};
 ghost use Rattle.race_play.specs.Reports.{Reports, is_altered};
 ghost use Rattle.race_play.specs.Settings.{IsSetting, setting_of};
 
@@ -24,7 +25,7 @@ use wire_line::Wire;
 /// No order of the threads in time is promised; `Reports` says what the report is. The call waits for the threads.
 ///
 /// `altered` says whether the check refused an answer, in a round or at the end. The only error is out of memory: there is no report
-/// then, and messages may have been carried.
+/// then, and each wire has carried the messages of its asker's first rounds, and perhaps the first ones of the next (`IsCarried`).
 pub fn race<R: Threads + Wait + Sync, W: Wire + Send, G: Gate + Sync>(
     rt: &R,
     alloc: Global,
@@ -41,6 +42,9 @@ pub fn race<R: Threads + Wait + Sync, W: Wire + Send, G: Gate + Sync>(
         × Reports (setting_of race.now) sent r.report) }
     ensures altered { IfOk result (λ r. r.altered ≡ list_any is_altered r.report) }
     ensures accepted { ¬ SomeRose W.sight wires.old.items wires.new.items → IfOk result (λ r. r.altered ≡ false) }
+    // Whether or not memory ran out: each wire carried the messages of its asker's first rounds, and perhaps the first ones of the next.
+    ensures carried { (sent : List (List Message))
+        × CarriedEach W.sight wires.old.items wires.new.items sent × IsCarried (setting_of race.now) sent }
 {
     let room = race.rows.len().max(1) as u32;
     let Ok((table, mut pass)) = Table::new(alloc, race.widths, room) else {

@@ -1,5 +1,5 @@
 //! A round of an asker.
-ghost use Rattle.std.specs.Prelude.{◌≡◌, ◌<◌, List, IfOk};
+ghost use Rattle.std.specs.Prelude.{◌≡◌, ◌<◌, List, IfOk, OnErr};
 ghost use Rattle.prg_chacha.specs.Prg.{derive_of};
 ghost use Rattle.query_plan.specs.Query.{Suits};
 ghost use Rattle.report_lines.specs.declared.lines.Who.TheVariants as who;
@@ -7,7 +7,7 @@ ghost use Rattle.server_rounds.specs.declared.opened.OpenedPair.{OpenedPair};
 ghost use Rattle.wire_line.specs.Messages.{Went};
 ghost use Rattle.wire_line.specs.declared.message.Message.{Message};
 ghost use Rattle.waldo_table.specs.Tables.{Grows, IsCovered, IsOf};
-ghost use Rattle.race_play.specs.Rounds.{Asks, IsPlainLine};
+ghost use Rattle.race_play.specs.Rounds.{Asks, BreaksOff, IsPlainLine};
 ghost use Rattle.wire_line.specs.Sights.{HasAltered};
 
 use crate::gate::{Gate, Point};
@@ -47,6 +47,8 @@ pub(crate) fn ask_line<R: Threads + Wait + Sync, W: Wire>(
         × IfOk result (Asks table.now.widths pass.old pass.new who query.now seed.now ms pair) }
     ensures plain { ¬ HasAltered W.sight wire.old wire.new
         → IfOk result (IsPlainLine table.now.widths pass.new who query.now) }
+    ensures broken { OnErr result ((ms : List Message) × Went W.sight wire.old ms wire.new
+        × BreaksOff table.now.widths pass.old pass.new query.now seed.now ms) }
 {
     let mut trace = Trace::new(alloc); // a race prints no traces
     let asked = table.ask(rt, alloc, pass, query, seed, wire, &mut trace, workers);
@@ -58,7 +60,7 @@ pub(crate) fn ask_line<R: Threads + Wait + Sync, W: Wire>(
 ///
 /// The line has the answer, or, where the check refuses it, the pair that the messages opened. The pass is one that never meets
 /// `Again`: it has seen as many rows at each server as its floor says, as a pass has that learned nothing and appended nothing. So
-/// the only error is out of memory, after which messages may have been carried.
+/// the only error is out of memory, after which no message was carried, or the first ones of the query.
 pub fn ask_round<R: Threads + Wait + Sync, W: Wire, G: Gate>(
     rt: &R,
     alloc: Global,
@@ -85,6 +87,8 @@ pub fn ask_round<R: Threads + Wait + Sync, W: Wire, G: Gate>(
         (derive_of master.now 2 asker round) ms pair) }
     ensures plain { ¬ HasAltered W.sight wire.old wire.new
         → IfOk result (IsPlainLine table.now.widths pass.new (who.Round asker round) query.now) }
+    ensures broken { OnErr result ((ms : List Message) × Went W.sight wire.old ms wire.new
+        × BreaksOff table.now.widths pass.old pass.new query.now (derive_of master.now 2 asker round) ms) }
 {
     let seed = derive(master, 2, u16::from(asker), u64::from(round));
     let who = Who::Round {

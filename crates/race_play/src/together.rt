@@ -6,6 +6,7 @@ ghost use Rattle.waldo_table.specs.Tables.{IsOf};
 ghost use Rattle.wire_line.specs.declared.message.Message.{Message};
 ghost use Rattle.race_play.specs.Askers.{WentEach};
 ghost use Rattle.race_play.specs.Asking.{AsksAll, CanAsk};
+ghost use Rattle.race_play.specs.Begun.{AreBegun};
 ghost use Rattle.race_play.specs.Jobs.{AllDone, AreNumbered, IsDone, IsFresh, IsReady};
 ghost use Rattle.race_play.specs.Raced.{IsRaced};
 ghost use Rattle.race_play.specs.Settings.{IsSetting, setting_of};
@@ -178,6 +179,9 @@ pub(crate) fn race_all<R: Threads + Wait + Sync, W: Wire + Send, G: Gate + Sync>
     ensures pass { IsOf table.now pass.new }
     ensures raced { (sent : List (List Message)) × WentEach W.sight sent wires.old wires.new
         × IfOk result (IsRaced (setting_of race.now) pass.new sent) }
+    ensures begun { (sent : List (List Message)) × WentEach W.sight sent wires.old wires.new
+        × AreBegun race.now.widths race.now.queries.now race.now.master race.now.crew.rounds pass.new.sight.order 0 sent
+        × (length sent ≤ race.now.crew.askers) }
 {
     let mut jobs = split_jobs(alloc, table, pass, race.rows.len(), race.crew.writers)?;
     let mut mine = table.split_pass(pass, 0);

@@ -1,11 +1,11 @@
 //! A writer.
-ghost use Rattle.std.specs.Prelude.{◌≡◌, ◌<◌, ◌≤◌, ◌+◌, ◌%◌, All, IfOk, OnOk, length, slice_get, Some};
+ghost use Rattle.std.specs.Prelude.{◌≡◌, ◌<◌, ◌≤◌, ◌+◌, ◌%◌, ℕ, List, All, IfOk, OnErr, OnOk, length, slice_get, Some};
 ghost use Rattle.prg_chacha.specs.Prg.{derive_of};
 ghost use Rattle.table_schema.specs.Widths.{Holds};
 ghost use Rattle.ticket_place.specs.Sights.{IsSound};
 ghost use Rattle.waldo_table.specs.Tables.{Appends, Grows, IsOf, PassView};
 ghost use Rattle.race_play.specs.Turns.{turns};
-ghost use Rattle.race_play.specs.Writes.{IsBack, Wrote, Wrote_back};
+ghost use Rattle.race_play.specs.Writes.{IsBack, Wrote, WroteFirst, Wrote_back};
 
 use crate::gate::{Gate, Point};
 use crate::lines::line_of_back;
@@ -45,6 +45,7 @@ fn write_row<R: Wait, G: Gate>(
     ensures pass { IsOf table.now pass.new }
     ensures grows { Grows pass.old pass.new }
     ensures appends { IfOk result (λ place. Appends (row.now, derive_of master.now 1 writer number) pass.old place pass.new) }
+    ensures stays { OnErr result (pass.new ≡ pass.old) }
 {
     let seed = derive(master, 1, u16::from(writer), number);
     let prepared = prepare(alloc, table.widths(), row, &seed)?;
@@ -86,6 +87,9 @@ fn write_turn<R: Wait, G: Gate>(
     ensures wrote { OnOk result ((p : PassView) → Grows p pass.old
         → Wrote rows.now master.now writer (turns writer writers i) p places.old.items pass.old
         → Wrote rows.now master.now writer (turns writer writers (i + 1)) p places.new.items pass.new) }
+    ensures broken { OnErr result ((p : PassView) → Grows p pass.old
+        → Wrote rows.now master.now writer (turns writer writers i) p places.old.items pass.old
+        → (j : ℕ) × (j ≤ i + 1) × (ps : List ℕ) × Wrote rows.now master.now writer (turns writer writers j) p ps pass.new) }
 {
     if i % writers as usize != writer as usize {
         return Ok(());
@@ -118,6 +122,7 @@ fn write_all<R: Wait, G: Gate>(
     ensures grows { Grows pass.old pass.new }
     ensures wrote { IfOk result (λ places. Wrote rows.now master.now writer (turns writer writers (length rows.now))
         pass.old places.items pass.new) }
+    ensures broken { OnErr result (WroteFirst rows.now master.now writer (turns writer writers (length rows.now)) pass.old pass.new) }
 {
     let mut places = Vec::new(alloc);
     for i in 0..rows.len() {
@@ -153,6 +158,7 @@ fn agree_back<R: Wait, G: Gate>(
     ensures own { pass.new.sight.own ≡ pass.old.sight.own }
     ensures room { pass.new.sight.room ≡ pass.old.sight.room }
     ensures back { IfOk result (IsBack writer pass.old pass.new) }
+    ensures floor { OnErr result (pass.new.floor ≡ pass.old.floor) }
 {
     let line = line_of_back(writer, table.agree(rt, alloc, pass))?;
     gate.pass(Point::AfterBack { writer });
@@ -164,8 +170,8 @@ fn agree_back<R: Wait, G: Gate>(
 /// and after the agreement.
 ///
 /// The line is `Back` with the number of rows that were agreed on, or `BackAgain` with a server that lacked a row below the pass's
-/// floor, which is one another writer has drawn and not yet placed there. The only error is out of memory; rows that were appended
-/// by then stay in the table.
+/// floor, which is one another writer has drawn and not yet placed there. The only error is out of memory; the first of
+/// the writer's rows are appended then, perhaps all of them, and stay in the table.
 pub fn write_rows<R: Wait, G: Gate>(
     rt: &R,
     alloc: Global,
@@ -186,6 +192,7 @@ pub fn write_rows<R: Wait, G: Gate>(
     ensures grows { Grows pass.old pass.new }
     ensures wrote { IfOk result (λ w. Wrote_back rows.now master.now writer (turns writer writers (length rows.now))
         pass.old w.places w.line pass.new) }
+    ensures broken { OnErr result (WroteFirst rows.now master.now writer (turns writer writers (length rows.now)) pass.old pass.new) }
 {
     let places = write_all(rt, alloc, table, pass, rows, writer, writers, master, gate)?;
     let line = agree_back(rt, alloc, table, pass, writer, gate)?;

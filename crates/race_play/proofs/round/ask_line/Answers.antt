@@ -1,7 +1,16 @@
-use Rattle.race_play.proofs.Asking.{asks_when_ok}
+use Rattle.std.proofs.Common.{List}
+use Rattle.wire_line.specs.Messages.{Went}
+use Rattle.wire_line.specs.declared.message.Message.{Message}
+use Rattle.race_play.proofs.Asking.{asks_when_ok, breaks_when_err}
 use Rattle.race_play.proofs.round.ask_line.Goals as goal
 
 pub returns-clause-asks : goal.returns-clause-asks
 returns-clause-asks g c =
     let h = c.ask-asked.ensures.asked in
     (h.0, h.1, h.2, asks_when_ok c.args.table.now.widths c.args.pass.now c.ask-asked.new.pass c.args.who _ c.args.query.now c.args.seed.now h.0 h.1 c.ask-asked.result c.line_of_ask.result h.3 h.4 c.floor.ensures.floor c.line_of_ask.ensures)
+
+pub returns-clause-broken : goal.returns-clause-broken
+returns-clause-broken g c =
+    let h = c.ask-asked.ensures.asked in
+    breaks_when_err c.args.table.now.widths c.args.pass.now c.ask-asked.new.pass c.args.who _ c.args.query.now c.args.seed.now h.0 h.1 c.ask-asked.result c.line_of_ask.result
+    (λ (ms : List Message). Went g.W.Wire.sight c.args.wire.now ms c.ask-asked.new.wire) h.2 h.3 c.line_of_ask.ensures

@@ -1,12 +1,14 @@
-use Rattle.std.proofs.Common.{◌∙◌, ap, subst, arith}
+use Rattle.std.proofs.Common.{◌∙◌, ap, refl, subst, List, [], arith}
 use Rattle.std.proofs.lemmas.List.{length-map}
 use Rattle.table_schema.specs.declared.widths.Widths.{Widths}
 use Rattle.ticket_place.specs.Sights.{Named}
 use Rattle.waldo_table.specs.Tables.{PassView}
-use Rattle.race_play.specs.Askers.{AreAsked}
+use Rattle.wire_line.specs.declared.message.Message.{Message}
+use Rattle.race_play.specs.Askers.{AreAsked, WentEach}
 use Rattle.race_play.specs.Filled.{IsGathered}
 use Rattle.race_play.specs.Gathers.{places_in}
-use Rattle.race_play.proofs.Beside.{asked_more}
+use Rattle.race_play.proofs.Answering.{asked_more}
+use Rattle.race_play.proofs.Breaking.{begun_in}
 use Rattle.race_play.proofs.Gathering.{ended_long}
 use Rattle.race_play.proofs.Racing.{all_backs, first_of, gathered_of}
 use Rattle.race_play.proofs.Writing.{grows_trans}
@@ -50,3 +52,38 @@ returns-clause-raced g c =
             (grows_trans c.run_both-asks.new.pass c.gather.new.pass c.gather_all.new.pass c.gather.ensures.grows.1 e.grows).order 0 asks.asked.0 c.in_ok-asks.field-0 asks.asked.2);
       },
     )
+
+pub returns-in_err-jobs-clause-begun : goal.returns-in_err-jobs-clause-begun
+returns-in_err-jobs-clause-begun g c = ([], refl, tt, omega arith)
+
+pub returns-in_err-gathered-clause-begun : goal.returns-in_err-gathered-clause-begun
+returns-in_err-gathered-clause-begun g c =
+    let b = c.run_both-asks.ensures.asked.begun in
+    let race = c.args.race.now in
+    begun_in c.args.table.now.widths race.widths c.run_both-asks.new.pass.sight.order c.gather_all.new.pass.sight.order race.queries.now race.master race.crew.rounds race.crew.askers
+    (λ (sent : List (List Message)). WentEach g.W.Wire.sight sent c.args.wires.now c.run_both-asks.new.wires) c.requires.widths
+    (grows_trans c.run_both-asks.new.pass c.gather.new.pass c.gather_all.new.pass c.gather.ensures.grows.1 c.gather_all.ensures.grows).order b.0 b.1 b.2 b.3
+
+pub returns-in_err-order-clause-begun : goal.returns-in_err-order-clause-begun
+returns-in_err-order-clause-begun g c =
+    let b = c.run_both-asks.ensures.asked.begun in
+    let race = c.args.race.now in
+    begun_in c.args.table.now.widths race.widths c.run_both-asks.new.pass.sight.order c.gather_all.new.pass.sight.order race.queries.now race.master race.crew.rounds race.crew.askers
+    (λ (sent : List (List Message)). WentEach g.W.Wire.sight sent c.args.wires.now c.run_both-asks.new.wires) c.requires.widths
+    (grows_trans c.run_both-asks.new.pass c.gather.new.pass c.gather_all.new.pass c.gather.ensures.grows.1 c.gather_all.ensures.grows).order b.0 b.1 b.2 b.3
+
+pub returns-in_err-asks-clause-begun : goal.returns-in_err-asks-clause-begun
+returns-in_err-asks-clause-begun g c =
+    let b = c.run_both-asks.ensures.asked.begun in
+    let race = c.args.race.now in
+    begun_in c.args.table.now.widths race.widths c.run_both-asks.new.pass.sight.order c.gather_all.new.pass.sight.order race.queries.now race.master race.crew.rounds race.crew.askers
+    (λ (sent : List (List Message)). WentEach g.W.Wire.sight sent c.args.wires.now c.run_both-asks.new.wires) c.requires.widths
+    (grows_trans c.run_both-asks.new.pass c.gather.new.pass c.gather_all.new.pass c.gather.ensures.grows.1 c.gather_all.ensures.grows).order b.0 b.1 b.2 b.3
+
+pub returns-clause-begun : goal.returns-clause-begun
+returns-clause-begun g c =
+    let b = c.run_both-asks.ensures.asked.begun in
+    let race = c.args.race.now in
+    begun_in c.args.table.now.widths race.widths c.run_both-asks.new.pass.sight.order c.gather_all.new.pass.sight.order race.queries.now race.master race.crew.rounds race.crew.askers
+    (λ (sent : List (List Message)). WentEach g.W.Wire.sight sent c.args.wires.now c.run_both-asks.new.wires) c.requires.widths
+    (grows_trans c.run_both-asks.new.pass c.gather.new.pass c.gather_all.new.pass c.gather.ensures.grows.1 c.gather_all.ensures.grows).order b.0 b.1 b.2 b.3
