@@ -44,11 +44,11 @@ module _ (entries : List (Row × Seed)) (j : List ℕ) (n : ℕ) (others : List 
       → (third.core ≡ core_at entries j n others (Agreed n)) × (third.widths ≡ start.widths)
   fixed_thrice start first second third is f g h =
       let a = f (core_at entries j n others (First n), replies.Fixed n)
-          (λ pair. ap (λ (c : Core). step start.capacity c (events.Fix 0) pair) is ∙ first_fix start.capacity pair) in
+      (λ pair. ap (λ (c : Core). step start.capacity c (events.Fix 0) pair) is ∙ first_fix start.capacity pair) in
       let b = g (core_at entries j n others (Second n n), replies.Fixed n)
-          (λ pair. ap (λ (c : Core). step first.capacity c (events.Fix 0) pair) (ap (λ (m : Seen). m.core) a) ∙ second_fix first.capacity pair) in
+      (λ pair. ap (λ (c : Core). step first.capacity c (events.Fix 0) pair) (ap (λ (m : Seen). m.core) a) ∙ second_fix first.capacity pair) in
       let c = h (core_at entries j n others (Agreed n), replies.Agreed n)
-          (λ pair. ap (λ (c : Core). step second.capacity c (events.Fix 0) pair) (ap (λ (m : Seen). m.core) b) ∙ third_fix second.capacity pair) in
+      (λ pair. ap (λ (c : Core). step second.capacity c (events.Fix 0) pair) (ap (λ (m : Seen). m.core) b) ∙ third_fix second.capacity pair) in
       (ap (λ (m : Seen). m.core) c, ap (λ (m : Seen). m.widths) c ∙ ap (λ (m : Seen). m.widths) b ∙ ap (λ (m : Seen). m.widths) a)
 
 pub all_agreed : (entries : List (Row × Seed)) (start first second third : Seen) → start.core ≡ core_fixed entries Unfixed → Fixes0 start first → Fixes0 first second

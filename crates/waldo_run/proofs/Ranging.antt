@@ -162,7 +162,7 @@ some_same a b e = cc
 pub agreed_all : (m : Seen) (e : Entries) (all : List (Row × Seed)) → m.core ≡ core_agreed all → IsAgreedBy m 0 e → e.all ≡ all
 agreed_all m e all core is =
     let count : ◌≡◌ {A = Option ℕ} (Some (length e.all)) (Some (length all)) =
-        sym is.agreed ∙ ap (λ (c : Core). rows_agreed (slice_get c.actors 0)) core in
+    sym is.agreed ∙ ap (λ (c : Core). rows_agreed (slice_get c.actors 0)) core in
     let n : length e.all ≡ length all = some_same (length e.all) (length all) count in
     ap (λ (x : Entries). x.all) is.first ∙ ap (λ (c : Core). take (length e.all) c.order) core ∙ take_all (length e.all) all (omega (arith, n))
 
@@ -172,7 +172,7 @@ pub sides_are : (w : Widths) (s : Setting) (low high : ℕ) (keys : Asked) (t0 t
     → sides_over keys t0 t1 t2 low high ≡ sides_in w s low high
 sides_are w s low high keys t0 t1 t2 all column k e0 e1 e2 rows at =
     let moved : (i : ℕ) → tree_over w all column i ≡ tree_in w s i =
-        λ i. ap (λ (l : List (Row × Seed)). tree_over w l column i) rows ∙ ap (λ (c : ℕ). tree_over w (seeded_rows s.master 0 s.rows) c i) at in
+    λ i. ap (λ (l : List (Row × Seed)). tree_over w l column i) rows ∙ ap (λ (c : ℕ). tree_over w (seeded_rows s.master 0 s.rows) c i) at in
     ap (λ (a : Asked). sides_over a t0 t1 t2 low high) k
     ∙ ap (λ (t : Tree). sides_over (asked_in w s) t t1 t2 low high) (e0 ∙ moved 0)
     ∙ ap (λ (t : Tree). sides_over (asked_in w s) (tree_in w s 0) t t2 low high) (e1 ∙ moved 1)

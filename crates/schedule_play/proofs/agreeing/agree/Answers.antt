@@ -13,7 +13,7 @@ returns-clause-agreed g c =
     let s = c.args.setting.now in
     let entries = seeded_rows s.master 0 s.rows.now in
     let start : c.into_machine-machine.result.core ≡ core_fixed entries Unfixed =
-        ap (λ (m : Seen). m.core) c.into_machine-machine.ensures ∙ ap (λ (t : Stage). t.core) c.in_ok-append_rows.ensures.stage in
+    ap (λ (m : Seen). m.core) c.into_machine-machine.ensures ∙ ap (λ (t : Stage). t.core) c.in_ok-append_rows.ensures.stage in
     (all_agreed entries c.into_machine-machine.result c.fix.new.machine c.fix-2.new.machine c.fix-3.new.machine start
     c.in_ok-fix.ensures c.in_ok-fix-2.ensures c.in_ok-fix-3.ensures).0
 
@@ -22,7 +22,7 @@ returns-clause-widths g c =
     let s = c.args.setting.now in
     let entries = seeded_rows s.master 0 s.rows.now in
     let start : c.into_machine-machine.result.core ≡ core_fixed entries Unfixed =
-        ap (λ (m : Seen). m.core) c.into_machine-machine.ensures ∙ ap (λ (t : Stage). t.core) c.in_ok-append_rows.ensures.stage in
+    ap (λ (m : Seen). m.core) c.into_machine-machine.ensures ∙ ap (λ (t : Stage). t.core) c.in_ok-append_rows.ensures.stage in
     (all_agreed entries c.into_machine-machine.result c.fix.new.machine c.fix-2.new.machine c.fix-3.new.machine start
     c.in_ok-fix.ensures c.in_ok-fix-2.ensures c.in_ok-fix-3.ensures).1
     ∙ ap (λ (m : Seen). m.widths) c.into_machine-machine.ensures ∙ c.in_ok-append_rows.ensures.ready.widths

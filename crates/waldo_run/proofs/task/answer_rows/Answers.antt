@@ -12,8 +12,8 @@ returns-in-Tree-clause-asked g c =
     let w = c.args.widths.now in
     let rows = c.args.rows.now in
     let legal = range_legal c.in-Tree.common c.in-Tree.low c.in-Tree.high w rows (subst IsLegal c.in-Tree.is c.requires.legal)
-        (subst (λ (x : Command). AreWidthsIn x w) c.in-Tree.is c.requires.widths) c.requires.held
-        (subst (λ (x : Command). let k = common_in x in length rows ≤ k.capacity) c.in-Tree.is c.requires.few) in
+    (subst (λ (x : Command). AreWidthsIn x w) c.in-Tree.is c.requires.widths) c.requires.held
+    (subst (λ (x : Command). let k = common_in x in length rows ≤ k.capacity) c.in-Tree.is c.requires.few) in
     range_answered g.W.Wire.sight c.args.command.now c.in-Tree.common c.in-Tree.low c.in-Tree.high w c.setting-setting.result.widths rows
     (seen c.setting-setting.result) c.args.wires.now.items c.answer_range.new.wires.items c.in-Tree.is c.setting-setting.ensures.widths
     c.setting-setting.ensures.seen c.requires.widths legal c.answer_range.result c.answer_range.ensures.asked

@@ -44,7 +44,7 @@ returns g c =
     let keys = the_keys w s c.in_ok-keys.keys _ c.derive-seed.result legal.single c.in_ok-keys.ensures.made c.derive-seed.ensures in
     let t = c.in_ok-trees.ensures in
     let same = sides_are w s c.args.low c.args.high c.in_ok-keys.keys _ _ _ c.in-Some.agreed.now.all _ keys t.zero t.one t.two all
-        (the_column s _ _ legal.single legal.setting.places) in
+    (the_column s _ _ legal.single legal.setting.places) in
     let m = c.tree_runs.ensures.messages in
     record {
       messages = (
@@ -53,9 +53,12 @@ returns g c =
         subst (λ (x : Sides). IsTreePart x m.0) same m.2,
         IfOk-weaker c.tree_runs.result _ _ (λ pair h.
             let full = subst (λ (x : Sides). IsTreeTranscript x m.0) same h.0 in
-            let opened = same_pair pair m.0 h.1 h.2 in
-            (full, opened, λ honest. ap (judged_in s) opened
-                ∙ opens_plainly c.pieces_hold.ensures w s c.args.low c.args.high legal c.trees_open.ensures c.plain_is_small.ensures c.requires.there
-                (subst AreKeysOf keys c.in_ok-keys.ensures.add_up) m.0 full honest)) m.3,
+            let opened = same_pair pair m.0 h.1 h.2 in (
+              full,
+              opened,
+              λ honest. ap (judged_in s) opened
+                  ∙ opens_plainly c.pieces_hold.ensures w s c.args.low c.args.high legal c.trees_open.ensures c.plain_is_small.ensures c.requires.there
+                  (subst AreKeysOf keys c.in_ok-keys.ensures.add_up) m.0 full honest,
+            )) m.3,
       );
     }
