@@ -99,7 +99,16 @@ fn raced<R: Abort + Threads + Wait + Sync, G: Gate + Sync>(
     let mut trace = Trace::new(alloc);
     assert_eq!(rt; wires.len(), 16);
     assert_eq!(rt;
-        run(rt, alloc, &list, &mut source, &mut sink, &mut wires, &mut trace, gate),
+        run(
+            rt,
+            alloc,
+            &list,
+            &mut source,
+            &mut sink,
+            &mut wires,
+            &mut trace,
+            gate
+        ),
         status,
         "{words}"
     );

@@ -557,7 +557,15 @@ fn an_interval_of_a_day(rt: HostRuntime) -> Result<(), Fail> {
     let mut trace = Trace::new(alloc);
     assert_eq!(&rt; wires.len(), 16);
     assert_eq!(&rt;
-        run_still(&rt, alloc, &words, &mut source, &mut sink, &mut wires, &mut trace),
+        run_still(
+            &rt,
+            alloc,
+            &words,
+            &mut source,
+            &mut sink,
+            &mut wires,
+            &mut trace
+        ),
         0
     );
     assert!(&rt; sink.bytes() == b"ask 0 rows 200 sum 453\n".as_slice());
@@ -588,7 +596,15 @@ fn answers<R: Abort + Threads + Sync>(
     let mut trace = Trace::new(alloc);
     assert_eq!(rt; wires.len(), 16);
     assert_eq!(rt;
-        run_still(rt, alloc, &list, &mut source, &mut sink, &mut wires, &mut trace),
+        run_still(
+            rt,
+            alloc,
+            &list,
+            &mut source,
+            &mut sink,
+            &mut wires,
+            &mut trace
+        ),
         0
     );
     assert!(rt; sink.bytes() == text.as_bytes(), "{words}");
@@ -699,7 +715,15 @@ fn a_host_that_is_no_text(rt: HostRuntime) -> Result<(), Fail> {
     let mut trace = Trace::new(alloc);
     assert_eq!(&rt; wires.len(), 16);
     assert_eq!(&rt;
-        run_still(&rt, alloc, &words, &mut source, &mut sink, &mut wires, &mut trace),
+        run_still(
+            &rt,
+            alloc,
+            &words,
+            &mut source,
+            &mut sink,
+            &mut wires,
+            &mut trace
+        ),
         5
     );
     assert!(&rt; sink.bytes() == b"waldo: record 2 Text\n".as_slice());
@@ -718,7 +742,15 @@ fn a_byte_too_many(rt: HostRuntime) -> Result<(), Fail> {
     let mut trace = Trace::new(alloc);
     assert_eq!(&rt; wires.len(), 16);
     assert_eq!(&rt;
-        run_still(&rt, alloc, &words, &mut source, &mut sink, &mut wires, &mut trace),
+        run_still(
+            &rt,
+            alloc,
+            &words,
+            &mut source,
+            &mut sink,
+            &mut wires,
+            &mut trace
+        ),
         5
     );
     assert!(&rt; sink.bytes() == b"waldo: input too long\n".as_slice());

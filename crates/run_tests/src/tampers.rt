@@ -155,7 +155,15 @@ fn tampers<R: Abort + Threads + Sync>(
     let mut wires = straight_wires(alloc)?;
     let mut trace = Trace::new(alloc);
     assert_eq!(rt; wires.len(), 16);
-    let status = run_still(rt, alloc, &list, &mut source, &mut sink, &mut wires, &mut trace);
+    let status = run_still(
+        rt,
+        alloc,
+        &list,
+        &mut source,
+        &mut sink,
+        &mut wires,
+        &mut trace,
+    );
     Ok((status, sink))
 }
 
@@ -202,7 +210,15 @@ fn the_wire_below_is_not_shifted(rt: HostRuntime) -> Result<(), Fail> {
     let mut sink = MemorySink::new(alloc, 1000, &[]).ok().ok_or("memory")?;
     let mut trace = Trace::new(alloc);
     assert_eq!(rt;
-        run_still(&rt, alloc, &list, &mut source, &mut sink, &mut wires, &mut trace),
+        run_still(
+            &rt,
+            alloc,
+            &list,
+            &mut source,
+            &mut sink,
+            &mut wires,
+            &mut trace
+        ),
         7
     );
     assert_eq!(rt; wires.len(), 16);
