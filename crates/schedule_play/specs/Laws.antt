@@ -86,5 +86,5 @@ PlainlyPlayed = (w : Widths) (task : Task) (history : List Done) → HasHistory 
 -- visits and the same lengths of messages in the end, whatever the bounds, and whatever the rows hold and the seeds are.
 abbrev pub SeenAlike : Type 0
 SeenAlike = (w : Widths) (n : ℕ) (queries others : List Query) → map shaped queries ≡ map shaped others
-    → (before after last : AllSeen) → Grew before after (traces_of (asked_sizes w n queries)) → Grew before last (traces_of (asked_sizes w n others))
-    → after ≡ last
+    → (before after last : AllSeen) → Grew before after (traces_of (asked_sizes w n queries))
+    → Grew before last (traces_of (asked_sizes w n others)) → after ≡ last

@@ -212,7 +212,8 @@ impl Progress {
             (step ∷ []) (stage_of self.new) wires.new.items) }
         ensures stops { IfErr result (Stops W.sight setting.now.widths (seen setting.now) style self.old.done
             (stage_of self.old) wires.old.items (step ∷ []) wires.new.items) }
-        ensures trace { AddsTraces (sizes_from setting.now.widths (seen setting.now) (stage_of self.old) (step ∷ [])) trace.old trace.new result }
+        ensures trace { AddsTraces (sizes_from setting.now.widths (seen setting.now) (stage_of self.old) (step ∷ []))
+            trace.old trace.new result }
     {
         let refused = PlayFault::NotAllowed { index: self.done };
         let actor = actor_in(step);
@@ -255,7 +256,8 @@ impl Progress {
             steps.now (stage_of self.new) wires.new.items) }
         ensures stops { IfErr result (Stops W.sight setting.now.widths (seen setting.now) style self.old.done
             (stage_of self.old) wires.old.items steps.now wires.new.items) }
-        ensures trace { AddsTraces (sizes_from setting.now.widths (seen setting.now) (stage_of self.old) steps.now) trace.old trace.new result }
+        ensures trace { AddsTraces (sizes_from setting.now.widths (seen setting.now) (stage_of self.old) steps.now)
+            trace.old trace.new result }
     {
         for step in steps {
             self.step(rt, alloc, setting, style, *step, wires, trace)?;

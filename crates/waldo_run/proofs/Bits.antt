@@ -7,7 +7,7 @@ use Rattle.std.proofs.Math.Pow.{pow_mono}
 use Rattle.table_schema.specs.Widths.{column_bits}
 use Rattle.table_schema.specs.declared.widths.Widths.{Widths}
 
-small : (w : Widths) (c : ℕ) → get_or w.bits c 0 ≤ 8
+pub small : (w : Widths) (c : ℕ) → get_or w.bits c 0 ≤ 8
 small w c = elim (cases_lt c w.columns) [
   | inl there ↦ (w.legal.2 c there).1
   | inr past ↦ omega (arith, w.legal.3 c past)

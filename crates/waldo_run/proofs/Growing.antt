@@ -1,5 +1,5 @@
 -- How the trace of a run grows.
-use Rattle.std.proofs.Common.{◌≡◌, ◌∙◌, refl, sym, ap, subst, ℕ, inl, inr, true, false, List, [], length, arith}
+use Rattle.std.proofs.Common.{◌≡◌, ◌∙◌, refl, sym, ap, subst, ℕ, inl, inr, true, false, List, length}
 use Rattle.std.specs.Prelude.{◌≢◌, IfOk, IsErr, Result, Ok, Err}
 use Rattle.fault_count.specs.Streams.{Change}
 use Rattle.ring128.specs.declared.memory.Memory.{Memory}
@@ -10,7 +10,7 @@ use Rattle.row_source.specs.declared.faults.RowFault.TheVariants as row
 use Rattle.row_source.specs.declared.input.ReadFault.{ReadFault}
 use Rattle.row_source.specs.declared.input.ReadFault.TheVariants as input
 use Rattle.schedule_play.specs.Tasks.{Setting, scheduled}
-use Rattle.schedule_play.specs.Traces.{AddsTraces, AddsUpTo, asked_sizes, sizes_in, traces_of}
+use Rattle.schedule_play.specs.Traces.{AddsTraces, asked_sizes, sizes_in, traces_of}
 use Rattle.schedule_play.specs.declared.play.PlayFault.{PlayFault}
 use Rattle.schedule_play.specs.declared.play.PlayFault.TheVariants as faults
 use Rattle.schedule_play.specs.declared.play.Played.{Played}
@@ -24,8 +24,8 @@ use Rattle.waldo_words.specs.declared.command.Command.TheVariants as commands
 use Rattle.waldo_words.specs.declared.command.Common.{Common}
 use Rattle.waldo_words.specs.declared.faults.WordFault.{WordFault}
 use Rattle.waldo_words.specs.declared.schedule.Step.{Step}
-use Rattle.waldo_run.specs.Grown.{Sees, SeesAt, SeesIn, SeesOver, SeesPart, Traces, TracesOf, sizes_by}
-use Rattle.waldo_run.specs.Replies.{IsReplyOf, Reply, unread}
+use Rattle.waldo_run.specs.Grown.{Sees, SeesAt, SeesIn, SeesPart, Traces, TracesOf, sizes_by}
+use Rattle.waldo_run.specs.Replies.{IsReplyOf, Reply}
 use Rattle.waldo_run.specs.Tasks.{AreWidthsIn, common_in, reads_input, rows_in, rows_made, setting_of}
 use Rattle.waldo_run.proofs.Begun.{read_suits, unread_suits}
 

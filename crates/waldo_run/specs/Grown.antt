@@ -28,7 +28,7 @@ sizes_by (commands.Trace common) w rows = asked_sizes w (length rows) common.que
 sizes_by (commands.Tamper common shifts) w rows = asked_sizes w (length rows) common.queries
 sizes_by (commands.Tree common low high) w rows = []
 
--- What the trace of a run grew by, where `grew` is said of it: over rows, the traces of these sizes
+-- What the trace of a run grew by, where `grew` is said of that part: over rows, the traces of these sizes
 abbrev pub SeesOver : Command → (AllSeen → Type 0) → List Row → Type 0
 SeesOver command grew rows = (w : Widths) × AreWidthsIn command w × grew (traces_of (sizes_by command w rows))
 
@@ -47,7 +47,8 @@ SeesAt command grew (Whole bytes) = SeesIn command grew (rows_in (common_in comm
 -- by words, and the way in which the source was met: nothing, where the words are refused
 abbrev pub Sees : Result Command WordFault → Change → (AllSeen → Type 0) → Type 0
 Sees (Err fault) source grew = grew (alike nothing)
-Sees (Ok command) source grew = (reading : Reading) × Suits (Ok command) reading × Reads most_bytes reading source × SeesAt command grew reading
+Sees (Ok command) source grew =
+    (reading : Reading) × Suits (Ok command) reading × Reads most_bytes reading source × SeesAt command grew reading
 
 -- out of memory: nothing, or a prefix of this
 abbrev pub SeesPart : Result Command WordFault → Change → AllSeen → AllSeen → Type 0

@@ -1,6 +1,5 @@
 -- What `trace` prints: how much each server saw of each query, from numbers that are not secret.
-use Rattle.std.specs.Prelude.{ℕ, ◌+◌, ◌≤◌, List, [], ◌∷◌, ◌++◌}
-use Rattle.query_plan.specs.declared.query.Query.{Query}
+use Rattle.std.specs.Prelude.{ℕ, ◌+◌, List, [], ◌∷◌, ◌++◌}
 use Rattle.report_lines.specs.declared.lines.Line.{Line}
 use Rattle.report_lines.specs.declared.lines.Line.TheVariants as lines
 use Rattle.table_schema.specs.declared.shapes.Shape.{Shape}
@@ -14,10 +13,6 @@ abbrev pub noted_over : List ℕ → ℕ → Shape → Noted
 noted_over bits n shape =
     let counts : Counts = record { visits = visits_over n shape; words = words_over bits n shape } in
     record { zero = counts; one = counts; two = counts }
-
--- 1 to 4 predicates
-abbrev pub HasFew : Query → Type 0
-HasFew q = (1 ≤ q.count) × (q.count ≤ 4)
 
 -- the lines of query i, one for each server
 abbrev pub trace_lines : ℕ → Noted → List Line

@@ -1,15 +1,15 @@
 //! How much servers see of a query, from numbers that are not secret.
-ghost use Rattle.std.specs.Prelude.{◌≡◌, ◌≤◌, ◌^◌, All, IfOk, map, slice_index};
+ghost use Rattle.std.specs.Prelude.{◌≡◌, ◌≤◌, ◌^◌, All, IfOk, map};
 ghost use Rattle.query_plan.specs.KeyMessages.{message_length};
-ghost use Rattle.query_plan.specs.PredicateKeys.{length_of};
-ghost use Rattle.query_plan.specs.Query.{shaped};
+ghost use Rattle.query_plan.specs.Query.{Suits, shaped};
+ghost use Rattle.table_schema.specs.Widths.{column_bits};
 ghost use Rattle.visit_trace.specs.Counts.{value_columns};
-ghost use Rattle.waldo_run.specs.Traces.{HasFew, noted_over};
+ghost use Rattle.waldo_run.specs.Traces.{noted_over};
 
-use query_plan::Query;
+use query_plan::{Query, message_length, shape_of};
 use ring128::Memory;
 use std::alloc::Global;
-use table_schema::{Aggregate, Kind};
+use table_schema::{Aggregate, Widths};
 
 /// How much a server saw of a query: how many chunks it visited, and how many words the messages have that it sent or received.
 #[derive(Clone, Copy)]
@@ -26,42 +26,6 @@ pub(crate) struct Noted {
     pub(crate) two: Counts,
 }
 
-// The bits of a column; 0 where there is none.
-fn bits_at(bits: &[u8], column: u8) -> u8
-    ensures { result ≡ slice_index bits.now column }
-{
-    match bits.get(usize::from(column)) {
-        Some(bits) => *bits,
-        None => 0,
-    }
-}
-
-// How many words the key of a predicate of this kind has, over a column of this many bits.
-fn key_words(kind: Kind, bits: u8) -> u64
-    ensures value { result ≡ length_of kind bits }
-    ensures few { result ≤ 2046 }
-{
-    let bits = u64::from(bits);
-    match kind {
-        Kind::Point => 3 + 3 * bits,
-        Kind::AtMost => 3 + 4 * bits,
-        Kind::Interval => 6 + 8 * bits,
-    }
-}
-
-// How many words a key message of a query has.
-fn message_words(bits: &[u8], query: &Query) -> u64
-    requires { query.now.count ≤ 4 }
-    ensures value { result ≡ message_length (shaped query.now) bits.now }
-    ensures few { result ≤ 2 ^ 16 }
-{
-    let mut words: u64 = 0;
-    for predicate in &query.predicates[..usize::from(query.count)] {
-        words += key_words(predicate.kind, bits_at(bits, predicate.column));
-    }
-    4 + 4 * words
-}
-
 // How many columns of values a query reads.
 fn value_columns(aggregate: Aggregate) -> u64
     ensures value { result ≡ value_columns aggregate }
@@ -73,16 +37,25 @@ fn value_columns(aggregate: Aggregate) -> u64
     }
 }
 
-// How much each server sees of a query over this many rows of columns of these bits.
-fn seen_by_all(bits: &[u8], rows: u64, query: &Query) -> Noted
+// How many words the key message of a query to each server has.
+fn message_words(widths: &Widths, query: &Query) -> u64
+    requires suits { Suits widths.now.columns widths.now.bits query.now }
+    ensures value { result ≡ message_length (shaped query.now) (column_bits widths.now) }
+    ensures few { result ≤ 2 ^ 16 }
+{
+    message_length(&shape_of(query), widths)
+}
+
+// How much each server sees of a query over this many rows of these widths.
+fn seen_by_all(widths: &Widths, rows: u64, query: &Query) -> Noted
     requires rows { rows ≤ 65536 }
-    requires few { HasFew query.now }
-    ensures { result ≡ noted_over bits.now rows (shaped query.now) }
+    requires suits { Suits widths.now.columns widths.now.bits query.now }
+    ensures { result ≡ noted_over (column_bits widths.now) rows (shaped query.now) }
 {
     let count = u64::from(query.count);
     let counts = Counts {
         visits: 2 * (rows.div_ceil(64) * (count + value_columns(query.aggregate))),
-        words: message_words(bits, query) + 2 * (2 * rows * (2 * count - 1) + 1),
+        words: message_words(widths, query) + 2 * (2 * rows * (2 * count - 1) + 1),
     };
     Noted {
         zero: counts,
@@ -91,20 +64,20 @@ fn seen_by_all(bits: &[u8], rows: u64, query: &Query) -> Noted
     }
 }
 
-/// How much each server sees of queries over this many rows of columns of these bits. The only error is out of memory.
+/// How much each server sees of queries over this many rows of these widths. The only error is out of memory.
 pub(crate) fn all_noted(
     alloc: Global,
-    bits: &[u8],
+    widths: &Widths,
     rows: u64,
     queries: &[Query],
 ) -> Result<Vec<Noted>, Memory>
     requires rows { rows ≤ 65536 }
-    requires few { All HasFew queries.now }
-    ensures { IfOk result (λ seen. seen.items ≡ map (λ q. noted_over bits.now rows (shaped q)) queries.now) }
+    requires suits { All (λ q. Suits widths.now.columns widths.now.bits q) queries.now }
+    ensures { IfOk result (λ seen. seen.items ≡ map (λ q. noted_over (column_bits widths.now) rows (shaped q)) queries.now) }
 {
     let mut seen = Vec::with_capacity(alloc, queries.len())?;
     for query in queries {
-        seen.push_reserved(seen_by_all(bits, rows, query));
+        seen.push_reserved(seen_by_all(widths, rows, query));
     }
     Ok(seen)
 }

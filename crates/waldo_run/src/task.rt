@@ -122,8 +122,7 @@ fn reported(
 {
     match command {
         Command::Trace(common) => {
-            let bits = &widths.bits[..usize::from(widths.columns)];
-            let seen = all_noted(alloc, bits, rows.len() as u64, common.queries.as_slice())?;
+            let seen = all_noted(alloc, widths, rows.len() as u64, common.queries.as_slice())?;
             let report = traced(alloc, &seen, reply.report())?;
             Ok(Reply::new(reply.status(), report))
         }
