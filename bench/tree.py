@@ -44,7 +44,8 @@ def main():
     for what, middle in (("least", min), ("median", statistics.median)):
         one, many, place, nodes, _ = (middle(run.seconds for run in part) for part in runs.values())
         scan = (many - one) / 15
-        print(f"  {what}: a query of ask {scan:.4f} s; the trees of three servers {place - one + scan:.4f} s; 30 nodes more {nodes - place:.4f} s")
+        trees = place - one + scan
+        print(f"  {what}: a query of ask {scan:.4f} s; the trees of three servers {trees:.4f} s; 30 nodes more {nodes - place:.4f} s")
     peaks = [statistics.median(run.peak for run in part) / 1024 for part in runs.values()]
     print(f"  peak: ask {peaks[0]:.1f} MiB, tree {peaks[2]:.1f} MiB")
     print(f"load after {timing.load()}")
