@@ -50,7 +50,8 @@ line_text (lines.Trace index server visits words) =
     codes "trace " ++ decimal index ++ codes " server " ++ decimal server
     ++ codes " visits " ++ decimal visits ++ codes " words " ++ decimal words
 line_text (lines.Tree low high total nodes) =
-    codes "tree 0 places " ++ decimal low ++ codes " to " ++ decimal high ++ codes " count " ++ decimal total ++ codes " nodes " ++ decimal nodes
+    codes "tree 0 places " ++ decimal low ++ codes " to " ++ decimal high
+    ++ codes " count " ++ decimal total ++ codes " nodes " ++ decimal nodes
 line_text (lines.TreeAltered total weighted) = codes "tree 0 altered total " ++ decimal total ++ codes " weighted " ++ decimal weighted
 line_text (lines.BadWord index) = codes "waldo: bad word " ++ decimal index
 line_text (lines.Missing name) = codes "waldo: missing " ++ name

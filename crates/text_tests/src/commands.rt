@@ -279,6 +279,17 @@ fn own_options(rt: HostRuntime) -> Result<(), Fail> {
     Ok(())
 }
 
+#[test]
+fn a_range(rt: HostRuntime) -> Result<(), Fail> {
+    let alloc = rt.alloc();
+    let counted = "tree|host:2|--from=0|--query|count host=3|--to|65536";
+    let Ok(Command::Tree { common, low, high }) = read(alloc, counted) else {
+        return Err("a tree".into());
+    };
+    assert_eq!(rt; (common.queries.len(), low, high), (1, 0, 65_536));
+    Ok(())
+}
+
 // Words with `queries` queries and `steps` steps.
 fn long(alloc: Global, queries: u64, steps: u64) -> Result<Vec<String>, AllocError> {
     let mut words = words_of(alloc, "replay|host:2|--schedule")?;

@@ -122,6 +122,26 @@ fn texts(rt: HostRuntime) -> Result<(), Fail> {
             Line::TooMany { capacity: 65536 },
             "waldo: more rows than 65536\n",
         ),
+        (
+            Line::TooFew { wanted: 9 },
+            "waldo: fewer rows than 9\n",
+        ),
+        (
+            Line::Tree {
+                low: 1,
+                high: 7,
+                total: 2,
+                nodes: 4,
+            },
+            "tree 0 places 1 to 7 count 2 nodes 4\n",
+        ),
+        (
+            Line::TreeAltered {
+                total: 3,
+                weighted: 22373722559603869626,
+            },
+            "tree 0 altered total 3 weighted 22373722559603869626\n",
+        ),
     ];
     let mut report = Report::new(rt.alloc());
     let mut wanted = String::new(rt.alloc());

@@ -52,7 +52,7 @@ use Rattle.waldo_run.specs.Replies.{Reply, checked_answer, range_line, range_rep
 use Rattle.waldo_run.specs.Run.{AskedOver, BegunOver}
 use Rattle.waldo_run.specs.Tampered.{CarriedBy, UnalteredBy}
 use Rattle.waldo_run.specs.Tasks.{AreWidthsIn, setting_of}
-use Rattle.waldo_run.specs.Trees.{BeginsRange, HasRange, IsPlainRange, IsRange, asked_in, judged_in, no_query, opened_by, pair_of, plain_count, query_in, seed_in, server_tree, sides_in, tree_in, tree_over}
+use Rattle.waldo_run.specs.Trees.{BeginsRange, HasRange, IsPlainRange, IsRange, asked_in, judged_in, no_query, opened_by, pair_of, plain_count, query_in, seed_in, sides_in, tree_in, tree_over}
 use Rattle.waldo_run.proofs.Begun.{on_err}
 use Rattle.waldo_run.proofs.Wires.{still_wires}
 use Rattle.wire_line.specs.Carried.{went_none}

@@ -6,6 +6,8 @@
 //! what these messages opened, over an unaltered wire of words and bytes alone, and every other status has its cause. It never puts a
 //! part of a report by itself, and reads nothing where the words are refused.
 //!
+//! `tree` plays no steps alone: it appends the rows, and asks its one query over trees of a column of them, in nine messages.
+//!
 //! [`run`] does the same and has `race` too, in which writers and askers work at once. What a race prints is no function of words and
 //! bytes, so its clause says which reports may come with the messages that went over the wires.
 //!

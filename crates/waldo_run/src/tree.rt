@@ -1,14 +1,13 @@
 //! The command that counts over a range of places.
 ghost use Rattle.std.specs.Prelude.{◌≡◌, ◌≢◌, ◌<◌, ◌≤◌, ℕ, Ok, List, IfOk, OnErr, All, length, map};
-ghost use Rattle.agreed_rows.specs.Agreed.{Sound};
-ghost use Rattle.prefix_log.specs.declared.snapshot.Snapshot.{Snapshot as Held};
 ghost use Rattle.row_tree.specs.Rounds.{IsTreePart, IsTreeTranscript};
 ghost use Rattle.schedule_play.specs.History.{AreHonest, Done, pair_at};
 ghost use Rattle.schedule_play.specs.Plays.{seen};
 ghost use Rattle.schedule_play.specs.Wires.{Carried, Unaltered};
 ghost use Rattle.server_rounds.specs.Shelves.{AreShelves, pieces_of};
 ghost use Rattle.waldo_run.specs.Replies.{range_line, range_reply};
-ghost use Rattle.waldo_run.specs.Trees.{BeginsRange, HasRange, IsPlainRange, IsRange, judged_in, opened_by, pair_of, plain_count, server_tree, sides_in, tree_over};
+ghost use Rattle.waldo_run.specs.Trees.{BeginsRange, HasRange, IsPlainRange, IsRange, judged_in};
+ghost use Rattle.waldo_run.specs.Trees.{opened_by, pair_of, plain_count, server_tree, sides_in, tree_over};
 ghost use Rattle.wire_line.specs.Messages.{IsHonest, Went};
 ghost use Rattle.wire_line.specs.declared.message.Message.{Message};
 

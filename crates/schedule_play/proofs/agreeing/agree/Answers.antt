@@ -1,5 +1,4 @@
 use Rattle.std.proofs.Common.{◌≡◌, ◌∙◌, ap}
-use Rattle.waldo_core.specs.Core.{Core}
 use Rattle.waldo_core.specs.Core.Fixes.{Unfixed}
 use Rattle.waldo_core.specs.Machines.{Seen}
 use Rattle.schedule_play.specs.AllAgreed.{core_fixed}

@@ -1,6 +1,5 @@
-use Rattle.std.proofs.Common.{◌≡◌, ◌∙◌, ap, arith, length, refl, subst, ℕ, [], List}
+use Rattle.std.proofs.Common.{◌∙◌, ap, arith, length, refl, subst, []}
 use Rattle.std.proofs.lemmas.Result.{IfOk-from_err, IfOk-weaker}
-use Rattle.query_plan.specs.KeyMessages.{Asked}
 use Rattle.query_plan.specs.Laws.{AreKeysOf}
 use Rattle.row_tree.specs.Column.{Tree}
 use Rattle.row_tree.specs.Rounds.{IsTreePart, IsTreeTranscript, Sides}

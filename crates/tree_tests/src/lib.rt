@@ -1,0 +1,7 @@
+//! Tests of trees over places, over public items alone.
+#![tactic(auto)]
+
+#[cfg(test)]
+mod covers;
+#[cfg(test)]
+mod trees;
