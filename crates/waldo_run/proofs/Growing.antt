@@ -91,7 +91,13 @@ none_grew : (t : AllSeen) (result : Result Reply Memory) → GrewBy t t (alike n
 none_grew t (Ok reply) = grew_nothing t
 none_grew t (Err memory) = prefix_none t (alike nothing)
 
--- nothing was seen for want of memory
+-- a range of places adds nothing
+pub range_adds : (command : Command) (c : Common) (low high : ℕ) (w : Widths) (rows : List Row) (t : AllSeen) (result : Result Reply Memory)
+    → command ≡ commands.Tree c low high → GrewBy t t (traces_of (sizes_by command w rows)) result
+range_adds command c low high w rows t result is =
+    subst (λ (x : Command). GrewBy t t (traces_of (sizes_by x w rows)) result) (sym is) (none_grew t result)
+
+-- nothing was seen, as memory ran out
 pub no_sees : (command : Command) (w : Widths) → AreWidthsIn command w → (rows : Result (List Row) RowFault) (t : AllSeen) → SeesIn command (GrewPrefix t t) rows
 no_sees command w of (Ok rows) t = (w, of, prefix_none t (traces_of (sizes_by command w rows)))
 no_sees command w of (Err fault) t = prefix_none t (alike nothing)
