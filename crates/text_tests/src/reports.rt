@@ -122,10 +122,7 @@ fn texts(rt: HostRuntime) -> Result<(), Fail> {
             Line::TooMany { capacity: 65536 },
             "waldo: more rows than 65536\n",
         ),
-        (
-            Line::TooFew { wanted: 9 },
-            "waldo: fewer rows than 9\n",
-        ),
+        (Line::TooFew { wanted: 9 }, "waldo: fewer rows than 9\n"),
         (
             Line::Tree {
                 low: 1,

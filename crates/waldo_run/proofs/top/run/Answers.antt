@@ -3,7 +3,6 @@ use Rattle.std.specs.Prelude.{◌≡◌, List, IfSome, Ok, map, string_bytes}
 use Rattle.table_schema.specs.declared.rows.Row.{Row}
 use Rattle.waldo_words.specs.declared.command.Command.{Command}
 use Rattle.waldo_run.specs.Grown.{Traces}
-
 use Rattle.waldo_words.specs.declared.command.Command.TheVariants as commands
 use Rattle.waldo_run.specs.Headline.{AsksOver, plain_answers}
 use Rattle.waldo_run.specs.Run.{Breaks, Puts, Runs, plain_reply}
