@@ -44,5 +44,6 @@ pub record AsksAll {W : Type 0} (sight : Sight W)
   pub asked : (sent : List (List Message)) × WentEach sight sent vs ws
       × IfOk result (AreAsked t.widths queries master crew.rounds q.sight.order asker sent)
       × (length sent + asker ≡ crew.askers)
-  pub begun : (sent : List (List Message)) × WentEach sight sent vs ws × AreBegun t.widths queries master crew.rounds q.sight.order asker sent
+  pub begun : (sent : List (List Message)) × WentEach sight sent vs ws
+      × AreBegun t.widths queries master crew.rounds q.sight.order asker sent
       × (length sent + asker ≡ crew.askers)

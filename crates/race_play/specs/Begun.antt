@@ -38,9 +38,9 @@ AreBegun w queries master rounds order asker [] = ⊤
 AreBegun w queries master rounds order asker (ms ∷ sent) =
     Began w order 0 (rounds_of queries master asker rounds) ms × AreBegun w queries master rounds order (suc asker) sent
 
--- The messages of a race, as far as it came: there is an order of entries so that each asker's wire carried so much of its rounds; and, only
--- once all rounds were answered, the first wire so much of the last queries, each over no fewer rows than there are. An asker that had not
--- begun has no list, or an empty one.
+-- The messages of a race, as far as it came: there is an order of entries so that each asker's wire carried so much of its rounds; and,
+-- only once all rounds were answered, the first wire so much of the last queries, each over no fewer rows than there are. An asker that
+-- had not begun has no list, or an empty one.
 pub record IsCarried (s : Setting) (sent : List (List Message)) : Type 0 where
   pub entries : List (Row × Seed)
   pub rounds : List (List Message)

@@ -1,5 +1,5 @@
 -- What a race comes to.
-use Rattle.std.proofs.Common.{◌≡◌, refl, sym, ap, subst, ℕ, ◌≤◌, Bool, true, false, codes, cond, List, [], ◌∷◌, All, length, arith}
+use Rattle.std.proofs.Common.{◌≡◌, ◌⊎◌, inl, inr, refl, sym, ap, subst, ℕ, ◌≤◌, Bool, true, false, codes, cond, List, [], ◌∷◌, All, length, arith}
 use Rattle.std.specs.Prelude.{Result, Ok, Err, IfOk, ok_or}
 use Rattle.std.specs.List.{list_any}
 use Rattle.std.proofs.lemmas.Slice.Eq.{bytes_eq-Decides}
@@ -27,7 +27,7 @@ use Rattle.waldo_words.specs.declared.command.Command.TheVariants as commands
 use Rattle.waldo_words.specs.declared.faults.WordFault.{WordFault}
 use Rattle.waldo_words.specs.declared.faults.WordFault.TheVariants.{Missing, Word}
 use Rattle.wire_line.specs.declared.message.Message.{Message}
-use Rattle.waldo_run.specs.Races.{IsRacing, RaceReplies, RacedIn, RacedOver, begin_race, command_at, crew_of, race_over}
+use Rattle.waldo_run.specs.Races.{CarriedFor, CarriedIn, IsRacing, RaceCarries, RaceReplies, RacedIn, RacedOver, begin_race, command_at, crew_of, race_over}
 use Rattle.waldo_run.specs.Replies.{Reply}
 use Rattle.waldo_run.specs.Tasks.{rows_in}
 use Rattle.waldo_run.specs.Words.{command_in}
@@ -37,6 +37,10 @@ use Rattle.fault_count.specs.Streams.{Change}
 -- what is said of the command of words that don't begin with `race`
 pub by_other : (P : Result Command WordFault → Type 0) (words : List (List ℕ)) → begin_race words ≡ false → P (command_in words) → P (command_at words)
 by_other P words other = subst P (sym (ap (λ (b : Bool). cond b (command_of words) (command_in words)) other))
+
+-- what is said of the command of words that do
+pub by_race : (P : Result Command WordFault → Type 0) (words : List (List ℕ)) → begin_race words ≡ true → P (command_at words) → P (command_of words)
+by_race P words is = subst P (ap (λ (b : Bool). cond b (command_of words) (command_in words)) is)
 
 -- the setting of a race is legal
 race_legal : (c : Common) (crew : Crew) (w : Widths) (rows : List Row) → IsRace c crew.writers crew.askers crew.rounds → AreWidthsOf c.schema w → All (Holds w) rows
@@ -73,6 +77,33 @@ whole_raced c crew source bytes carried same reads (Ok reply) h = record {
   went = h.1;
   raced = subst (λ (k : Crew). RacedIn c k (rows_in c bytes) h.0 reply) same h.2;
 }
+
+-- ---- what was carried
+
+pub whole_carried : (c : Common) (crew : Crew) (source : Change) (bytes : List ℕ) (carried : List (List Message) → Type 0) → crew ≡ crew_of c crew.writers crew.askers crew.rounds
+    → Reads most_bytes (Whole bytes) source → (sent : List (List Message)) → carried sent → (sent ≡ []) ⊎ CarriedIn c crew (rows_in c bytes) sent
+    → RaceCarries (Ok (commands.Race c crew.writers crew.askers crew.rounds)) source carried
+whole_carried c crew source bytes carried same reads sent went how = record {
+  sent = sent;
+  went = went;
+  begun = elim how [
+    | inl none ↦ inl none
+    | inr begun ↦ inr (Whole bytes, reads, subst (λ (k : Crew). CarriedIn c k (rows_in c bytes) sent) same begun)
+  ];
+}
+
+no_message : (command : Result Command WordFault) (source : Change) → CarriedFor command source []
+no_message (Err fault) source = refl
+no_message (Ok (commands.Ask c)) source = refl
+no_message (Ok (commands.Replay c schedule)) source = refl
+no_message (Ok (commands.Race c writers askers rounds)) source = inl refl
+no_message (Ok (commands.Make c number count)) source = refl
+no_message (Ok (commands.Trace c)) source = refl
+no_message (Ok (commands.Tamper c shifts)) source = refl
+no_message (Ok (commands.Tree c low high)) source = refl
+
+pub none_carried : (command : Result Command WordFault) (source : Change) (carried : List (List Message) → Type 0) → carried [] → RaceCarries command source carried
+none_carried command source carried none = record { sent = []; went = none; begun = no_message command source }
 
 -- ---- words that begin with `race` say no other command
 

@@ -28,7 +28,7 @@ long_reported (Some xs) (Some ys) bs reported c e =
     let known : xs ≡ reported = cc in
     rw (← known, c) (omega (arith, length-append bs ys))
 
-short_reading : (bytes : List ℕ) (b : Bool) → nat_le (length bytes) most_bytes ≡ b → length bytes ≤ most_bytes → cond b (Whole bytes) Long ≡ Whole bytes
+pub short_reading : (bytes : List ℕ) (b : Bool) → nat_le (length bytes) most_bytes ≡ b → length bytes ≤ most_bytes → cond b (Whole bytes) Long ≡ Whole bytes
 short_reading bytes true e h = refl
 short_reading bytes false e h = absurd (grind arith)
 
@@ -37,7 +37,7 @@ long_reading bytes true e h = absurd (grind arith)
 long_reading bytes false e h = refl
 
 -- the reading over reported bytes, where no read failed
-read_reported : (reading : Reading) (source : Change) (reported : List ℕ) → reading ≢ Untouched
+pub read_reported : (reading : Reading) (source : Change) (reported : List ℕ) → reading ≢ Untouched
     → Reads most_bytes reading source → (Rose source.before source.now → ⊥) → source.old ≡ Some reported → reading ≡ reading_of reported
 read_reported Untouched source reported some reads sure e = absurd (some refl)
 read_reported (Whole bytes) source reported some reads sure e =

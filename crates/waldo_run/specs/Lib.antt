@@ -1,4 +1,5 @@
 pub mod Grown
+pub mod Complete
 pub mod Headline
 pub mod Made
 pub mod Races

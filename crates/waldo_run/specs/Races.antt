@@ -1,7 +1,8 @@
 -- What a race does to its source, its wires and its sink, and with what status it ends.
-use Rattle.std.specs.Prelude.{◌≡◌, ⊤, ℕ, Bool, false, bytes_eq, codes, if◌then◌else◌, Result, Ok, Err, List, [], ◌∷◌}
+use Rattle.std.specs.Prelude.{◌≡◌, ◌⊎◌, ⊤, ℕ, Bool, false, bytes_eq, codes, if◌then◌else◌, Result, Ok, Err, List, [], ◌∷◌}
 use Rattle.std.specs.List.{list_any}
 use Rattle.query_plan.specs.Query.{AreWidthsOf}
+use Rattle.race_play.specs.Begun.{IsCarried}
 use Rattle.race_play.specs.Reports.{Reports, is_altered}
 use Rattle.race_play.specs.Settings.{IsSetting, Setting}
 use Rattle.race_play.specs.declared.setting.Crew.{Crew}
@@ -111,3 +112,34 @@ pub record Races (command : Result Command WordFault) (source : Change) (carried
   pub reply : Reply
   pub replies : RaceReplies command source carried reply
   pub puts : Puts reply sink status
+
+-- the messages of a race over rows, which may have a fault, as far as it came
+abbrev pub CarriedIn : Common → Crew → Result (List Row) RowFault → List (List Message) → Type 0
+CarriedIn common crew (Err fault) sent = sent ≡ []
+CarriedIn common crew (Ok rows) sent =
+    (widths : Widths) × AreWidthsOf common.schema widths × IsCarried (race_over common crew widths rows) sent
+
+abbrev pub CarriedFrom : Common → Crew → Reading → List (List Message) → Type 0
+CarriedFrom common crew Untouched sent = sent ≡ []
+CarriedFrom common crew Broken sent = sent ≡ []
+CarriedFrom common crew Long sent = sent ≡ []
+CarriedFrom common crew (Whole bytes) sent = CarriedIn common crew (rows_in common bytes) sent
+
+-- none, or those of a race over what reading gave
+abbrev pub CarriedFor : Result Command WordFault → Change → List (List Message) → Type 0
+CarriedFor (Err fault) source sent = sent ≡ []
+CarriedFor (Ok (commands.Race common writers askers rounds)) source sent =
+    (sent ≡ []) ⊎ ((reading : Reading) × Reads most_bytes reading source
+    × CarriedFrom common (crew_of common writers askers rounds) reading sent)
+CarriedFor (Ok (commands.Ask common)) source sent = sent ≡ []
+CarriedFor (Ok (commands.Replay common schedule)) source sent = sent ≡ []
+CarriedFor (Ok (commands.Make common number count)) source sent = sent ≡ []
+CarriedFor (Ok (commands.Trace common)) source sent = sent ≡ []
+CarriedFor (Ok (commands.Tamper common shifts)) source sent = sent ≡ []
+CarriedFor (Ok (commands.Tree common low high)) source sent = sent ≡ []
+
+-- Whether or not memory ran out, the wires carried the first of the messages that a race over the input's rows has, if any.
+pub record RaceCarries (command : Result Command WordFault) (source : Change) (carried : List (List Message) → Type 0) : Type 0 where
+  pub sent : List (List Message)
+  pub went : carried sent
+  pub begun : CarriedFor command source sent

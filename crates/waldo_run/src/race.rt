@@ -1,5 +1,5 @@
 //! A run of `race`, from bytes in to bytes out.
-ghost use Rattle.std.specs.Prelude.{◌≡◌, ◌≢◌, ◌≤◌, true, All, List, if◌then◌else◌, map, string_bytes, Ok, IfOk, IfSome, IsErr, length};
+ghost use Rattle.std.specs.Prelude.{◌≡◌, ◌≢◌, ◌≤◌, ◌⊎◌, [], true, All, List, if◌then◌else◌, map, string_bytes, Ok, IfOk, IfSome, IsErr, length};
 ghost use Rattle.query_plan.specs.Query.{AreWidthsOf};
 ghost use Rattle.race_play.specs.Askers.{CarriedEach};
 ghost use Rattle.table_schema.specs.Widths.{Holds};
@@ -8,7 +8,7 @@ ghost use Rattle.waldo_words.specs.Words.{command_of};
 ghost use Rattle.waldo_words.specs.declared.command.Command.TheVariants as commands;
 ghost use Rattle.wire_line.specs.Lists.{SomeRose};
 ghost use Rattle.wire_line.specs.declared.message.Message.{Message};
-ghost use Rattle.waldo_run.specs.Races.{IsRacing, RaceReplies, RacedIn, RacedOver, Races, begin_race, crew_of};
+ghost use Rattle.waldo_run.specs.Races.{CarriedIn, IsRacing, RaceCarries, RaceReplies, RacedIn, RacedOver, Races, begin_race, crew_of};
 ghost use Rattle.waldo_run.specs.Run.{IsUnchanged, ReadsNothing, Refuses};
 ghost use Rattle.waldo_run.specs.Tasks.{rows_in};
 ghost use Rattle.fault_count.specs.Streams.{HasFailed, change};
@@ -55,6 +55,8 @@ fn race_rows<R: Threads + Wait + Sync, W: Wire + Send, G: Gate + Sync>(
     ensures raced { IfOk result (λ reply. (sent : List (List Message)) × CarriedEach W.sight wires.old.items wires.new.items sent
         × RacedOver common.now crew rows.now sent reply) }
     ensures accepted { ¬ SomeRose W.sight wires.old.items wires.new.items → IfOk result (λ reply. reply.status ≢ 7) }
+    ensures carried { (sent : List (List Message)) × CarriedEach W.sight wires.old.items wires.new.items sent
+        × CarriedIn common.now crew (Ok rows.now) sent }
 {
     let setting = Race {
         widths: *widths,
@@ -84,6 +86,8 @@ fn race_bytes<R: Threads + Wait + Sync, W: Wire + Send, G: Gate + Sync>(
     ensures raced { IfOk result (λ reply. (sent : List (List Message)) × CarriedEach W.sight wires.old.items wires.new.items sent
         × RacedIn common.now crew (rows_in common.now bytes.items) sent reply) }
     ensures accepted { ¬ SomeRose W.sight wires.old.items wires.new.items → IfOk result (λ reply. reply.status ≢ 7) }
+    ensures carried { (sent : List (List Message)) × CarriedEach W.sight wires.old.items wires.new.items sent
+        × ((sent ≡ []) ⊎ CarriedIn common.now crew (rows_in common.now bytes.items) sent) }
 {
     let widths = common.schema.widths();
     let rows = read_rows(alloc, &common.schema, common.capacity, &bytes);
@@ -111,6 +115,8 @@ fn race_input<R: Threads + Wait + Sync, S: Source, W: Wire + Send, G: Gate + Syn
     ensures raced { IfOk result (RaceReplies (Ok (commands.Race common.now crew.writers crew.askers crew.rounds))
         (change S.sight source.old source.new) (CarriedEach W.sight wires.old.items wires.new.items)) }
     ensures accepted { ¬ SomeRose W.sight wires.old.items wires.new.items → IfOk result (λ reply. reply.status ≢ 7) }
+    ensures carried { RaceCarries (Ok (commands.Race common.now crew.writers crew.askers crew.rounds))
+        (change S.sight source.old source.new) (CarriedEach W.sight wires.old.items wires.new.items) }
 {
     match read_all(alloc, source) {
         Ok(bytes) => race_bytes(rt, alloc, common, crew, bytes, gate, wires),
@@ -135,6 +141,8 @@ fn race_command<R: Threads + Wait + Sync, S: Source, W: Wire + Send, G: Gate + S
         (CarriedEach W.sight wires.old.items wires.new.items)) }
     ensures unread { ReadsNothing (Ok command.now) → IsUnchanged (change S.sight source.old source.new) }
     ensures accepted { ¬ SomeRose W.sight wires.old.items wires.new.items → IfOk result (λ reply. reply.status ≢ 7) }
+    ensures carried { RaceCarries (Ok command.now) (change S.sight source.old source.new)
+        (CarriedEach W.sight wires.old.items wires.new.items) }
 {
     match command {
         Command::Race {
@@ -176,6 +184,8 @@ fn race_words<R: Threads + Wait + Sync, S: Source, W: Wire + Send, G: Gate + Syn
         (CarriedEach W.sight wires.old.items wires.new.items)) }
     ensures unread { ReadsNothing (command_of (map string_bytes words.now)) → IsUnchanged (change S.sight source.old source.new) }
     ensures accepted { ¬ SomeRose W.sight wires.old.items wires.new.items → IfOk result (λ reply. reply.status ≢ 7) }
+    ensures carried { RaceCarries (command_of (map string_bytes words.now)) (change S.sight source.old source.new)
+        (CarriedEach W.sight wires.old.items wires.new.items) }
 {
     match read_words(alloc, words) {
         Ok(command) => race_command(rt, alloc, &command, source, gate, wires),
@@ -206,6 +216,8 @@ pub(crate) fn run_race<
     ensures memory { result ≡ 6 → IsUnchanged (change K.sight sink.old sink.new) }
     ensures raced { result ≢ 6 → Races (command_of (map string_bytes words.now)) (change S.sight source.old source.new)
         (CarriedEach W.sight wires.old.items wires.new.items) (change K.sight sink.old sink.new) result }
+    ensures carried { RaceCarries (command_of (map string_bytes words.now)) (change S.sight source.old source.new)
+        (CarriedEach W.sight wires.old.items wires.new.items) }
     ensures refused { result ≡ 2 → IsErr (command_of (map string_bytes words.now)) }
     ensures unread { ReadsNothing (command_of (map string_bytes words.now)) → IsUnchanged (change S.sight source.old source.new) }
     ensures read_fault { result ≡ 3 → HasFailed S.sight source.old source.new }

@@ -6,6 +6,7 @@ ghost use Rattle.table_schema.specs.declared.rows.Row.{Row};
 ghost use Rattle.wire_line.specs.Lists.{SomeRose};
 ghost use Rattle.visit_trace.specs.Seen.{GrewBy};
 ghost use Rattle.waldo_run.specs.Grown.{SeesIn, Traces, TracesOf};
+ghost use Rattle.waldo_run.specs.Complete.{Completes, IsAccepted};
 ghost use Rattle.waldo_run.specs.Headline.{AsksOver, plain_answers};
 ghost use Rattle.waldo_run.specs.Run.{Answers, Breaks, HasSchedule, IsUnchanged, Puts, ReadsNothing, Refuses, Replies, Runs, plain_reply};
 ghost use Rattle.waldo_run.specs.Tampered.{AltersNothing, CarriedBy, UnalteredBy};
@@ -217,6 +218,15 @@ pub fn run_still<R: Threads + Sync, S: Source, K: Sink, W: Wire>(
         → ¬ HasFailed S.sight source.old source.new → ¬ SomeRose W.sight wires.old.items wires.new.items
         → IfSome (S.sight.bytes source.old) (λ bytes.
         Puts (plain_reply (command_in (map string_bytes words.now)) bytes) (change K.sight sink.old sink.new) result) }
+    // Nothing else can come of accepted words over an accepted input whose steps all have a case, where no read, no put and no wire
+    // had a fault: status 6, or status 0 with the whole plain text; where the command alters its own messages the reply to what they
+    // opened, with status 0, or 7 where the check refuses a pair.
+    ensures complete { ¬ HasFailed S.sight source.old source.new → ¬ HasFailed K.sight sink.old sink.new
+        → ¬ SomeRose W.sight wires.old.items wires.new.items → (command : Command) (rows : List Row)
+        → command_in (map string_bytes words.now) ≡ Ok command → IsAccepted command (S.sight.bytes source.old) rows
+        → Completes command rows (CarriedBy W.sight (command_in (map string_bytes words.now)) wires.old.items wires.new.items)
+        (UnalteredBy W.sight (command_in (map string_bytes words.now)) wires.old.items wires.new.items)
+        (change K.sight sink.old sink.new) result }
     // A refused word, and nothing was read; or a step of a schedule without a case.
     ensures refused { result ≡ 2
         → IsErr (command_in (map string_bytes words.now)) ⊎ HasSchedule (command_in (map string_bytes words.now)) }

@@ -1,13 +1,16 @@
 //! The top call: `race`, and every other command.
-ghost use Rattle.std.specs.Prelude.{◌≡◌, ◌≢◌, ◌⊎◌, true, false, List, map, string_bytes, Ok, IfSome, IsErr, length};
+ghost use Rattle.std.specs.Prelude.{◌≡◌, ◌≢◌, ◌⊎◌, ℕ, true, false, List, map, string_bytes, Ok, IfSome, IsErr, length};
 ghost use Rattle.table_schema.specs.declared.rows.Row.{Row};
 ghost use Rattle.wire_line.specs.Lists.{SomeRose};
 ghost use Rattle.waldo_run.specs.Grown.{Traces};
+ghost use Rattle.waldo_run.specs.Complete.{Completes, EndsRaced, GivesRows, IsAccepted};
 ghost use Rattle.waldo_run.specs.Headline.{AsksOver, plain_answers};
-ghost use Rattle.waldo_run.specs.Races.{Races, begin_race, command_at};
+ghost use Rattle.waldo_run.specs.Races.{RaceCarries, Races, begin_race, command_at, crew_of};
 ghost use Rattle.waldo_run.specs.Run.{Breaks, HasSchedule, IsUnchanged, Puts, ReadsNothing, Refuses, Runs, plain_reply};
 ghost use Rattle.waldo_run.specs.Tasks.{common_in};
 ghost use Rattle.waldo_words.specs.declared.command.Command.{Command};
+ghost use Rattle.waldo_words.specs.declared.command.Command.TheVariants as commands;
+ghost use Rattle.waldo_words.specs.declared.command.Common.{Common};
 ghost use Rattle.fault_count.specs.Streams.{HasFailed, change};
 ghost use Rattle.waldo_run.specs.Tampered.{AltersNothing, CarriedBy, UnalteredBy};
 ghost use Rattle.race_play.specs.Askers.{CarriedEach};
@@ -61,11 +64,33 @@ pub fn run<R: Threads + Wait + Sync, S: Source, K: Sink, W: Wire + Send, G: Gate
         → ¬ HasFailed S.sight source.old source.new → ¬ SomeRose W.sight wires.old.items wires.new.items
         → IfSome (S.sight.bytes source.old) (λ bytes.
         Puts (plain_reply (command_at (map string_bytes words.now)) bytes) (change K.sight sink.old sink.new) result) }
+    ensures complete { begin_race (map string_bytes words.now) ≡ false
+        → ¬ HasFailed S.sight source.old source.new → ¬ HasFailed K.sight sink.old sink.new
+        → ¬ SomeRose W.sight wires.old.items wires.new.items → (command : Command) (rows : List Row)
+        → command_at (map string_bytes words.now) ≡ Ok command → IsAccepted command (S.sight.bytes source.old) rows
+        → Completes command rows (CarriedBy W.sight (command_at (map string_bytes words.now)) wires.old.items wires.new.items)
+        (UnalteredBy W.sight (command_at (map string_bytes words.now)) wires.old.items wires.new.items)
+        (change K.sight sink.old sink.new) result }
     // A race: the source was met in one of its ways, each asker's messages went over its wire, and a report was put that a race over the
     // input's rows may come to with these messages; or the line of what was refused was put, and the wires are as they were.
     ensures raced { begin_race (map string_bytes words.now) ≡ true → result ≢ 6
         → Races (command_at (map string_bytes words.now)) (change S.sight source.old source.new)
         (CarriedEach W.sight wires.old.items wires.new.items) (change K.sight sink.old sink.new) result }
+    // Nothing else can come of an accepted race over an accepted input, where nothing had a fault: status 6, or status 0 and a report
+    // that such a race may have.
+    ensures completed { begin_race (map string_bytes words.now) ≡ true
+        → ¬ HasFailed S.sight source.old source.new → ¬ HasFailed K.sight sink.old sink.new
+        → ¬ SomeRose W.sight wires.old.items wires.new.items
+        → (common : Common) (writers askers rounds : ℕ) (rows : List Row)
+        → command_at (map string_bytes words.now) ≡ Ok (commands.Race common writers askers rounds)
+        → GivesRows common (S.sight.bytes source.old) rows
+        → (result ≡ 6) ⊎ EndsRaced common (crew_of common writers askers rounds) rows
+        (CarriedEach W.sight wires.old.items wires.new.items) (change K.sight sink.old sink.new) result }
+    // And whatever the status is, out of memory too, each wire carried the messages of its asker's first rounds, and perhaps the first
+    // ones of the next.
+    ensures carried { begin_race (map string_bytes words.now) ≡ true
+        → RaceCarries (command_at (map string_bytes words.now)) (change S.sight source.old source.new)
+        (CarriedEach W.sight wires.old.items wires.new.items) }
     // Whatever the command is, each status has its cause.
     ensures refused { result ≡ 2
         → IsErr (command_at (map string_bytes words.now)) ⊎ HasSchedule (command_at (map string_bytes words.now)) }
