@@ -6,6 +6,7 @@ use std::alloc::Global;
 use std::process::Abort;
 use std::test::Fail;
 use std::thread::Threads;
+use visit_trace::Trace;
 use waldo_run::run_still;
 
 const COUNT: &str = "ask|host:2|--query|count host=3";
@@ -122,12 +123,18 @@ fn meets<R: Abort + Threads + Sync>(rt: &R, alloc: Global, fault: &Fault) -> Res
     let mut source = MemorySource::new(alloc, input.as_bytes(), &[read])?;
     let mut sink = MemorySink::new(alloc, room, &[put])?;
     let mut wires = straight_wires(alloc)?;
+    let mut trace = Trace::new(alloc);
     assert_eq!(rt; wires.len(), 16);
-    assert_eq!(rt;
-        run_still(rt, alloc, &list, &mut source, &mut sink, &mut wires),
-        status,
-        "{words}"
+    let found = run_still(
+        rt,
+        alloc,
+        &list,
+        &mut source,
+        &mut sink,
+        &mut wires,
+        &mut trace,
     );
+    assert_eq!(rt; found, status, "{words}");
     assert!(rt; sink.bytes() == text.as_bytes(), "{words}");
     Ok(())
 }

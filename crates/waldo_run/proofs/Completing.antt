@@ -1,6 +1,6 @@
 -- Where nothing failed, accepted words over an accepted input come to their end.
+use Rattle.std.proofs.Common.{◌≡◌, ◌≢◌, ◌∙◌, ◌⊎◌, inl, inr, refl, sym, ap, subst, ℕ, ◌≤◌, Bool, true, false, cond, eqb, eq-eqb, ltb, List, length, arith}
 use Rattle.std.proofs.lemmas.Bool.{ltb-true}
-use Rattle.std.proofs.Common.{◌≡◌, ◌≢◌, ◌∙◌, ◌⊎◌, inl, inr, refl, sym, ap, subst, arith, ℕ, ◌≤◌, Bool, true, false, cond, eqb, eq-eqb, ltb, List, length}
 use Rattle.std.proofs.lemmas.Bool.Decides.{Decides-eqb}
 use Rattle.std.specs.Prelude.{IsErr, MatchBool, Option, None, Some, Result, Ok, Err}
 use Rattle.std.specs.Io.KnownBytes.{Appends}
@@ -16,7 +16,7 @@ use Rattle.row_source.specs.Input.Reading.{Untouched, Whole, Long, Broken}
 use Rattle.schedule_play.specs.History.{Done, opened_in}
 use Rattle.schedule_play.specs.Laws.{AskedInOrder}
 use Rattle.schedule_play.specs.Stages.{Stage, played}
-use Rattle.schedule_play.specs.Tasks.{Setting, Task}
+use Rattle.schedule_play.specs.Tasks.{Task}
 use Rattle.schedule_play.specs.declared.style.Style.{Style}
 use Rattle.schedule_play.specs.declared.style.Style.TheVariants.{Queries, Rounds}
 use Rattle.table_schema.specs.declared.rows.Row.{Row}
@@ -26,15 +26,15 @@ use Rattle.waldo_words.specs.declared.command.Command.TheVariants as commands
 use Rattle.waldo_words.specs.declared.faults.WordFault.{WordFault}
 use Rattle.waldo_words.specs.declared.shifts.ShiftWord.{ShiftWord}
 use Rattle.wire_line.specs.declared.message.Message.{Message}
-use Rattle.waldo_run.specs.Complete.{CanBeDone, EndsChecked, EndsPlainly, EndsRaced, EndsWith, GivesRows, HaveCases, IsAccepted}
+use Rattle.waldo_run.specs.Complete.{EndsChecked, EndsPlainly, EndsRaced, EndsWith, GivesRows, HaveCases, IsAccepted, StepsHaveCases}
 use Rattle.waldo_run.specs.Races.{RacedFrom, RacedIn, RacedOver, Races, crew_of}
 use Rattle.waldo_run.specs.Replies.{Answering, Reply, checked_answer, ended, plain_answer, plain_in, range_line, reply_over, reply_to, rows_reply, single}
 use Rattle.waldo_run.specs.Run.{Asked, AskedIn, AskedOver, HasSchedule, Puts, Runs}
 use Rattle.waldo_run.specs.Tampered.{AltersNothing, shifts_of}
-use Rattle.waldo_run.specs.Tasks.{common_in, reads_input, rows_in, rows_made, task_over}
 use Rattle.waldo_run.specs.Trees.{plain_count}
 use Rattle.waldo_run.specs.Works.{Work, work_over}
 use Rattle.waldo_run.specs.Works.Work.{Steps, Range}
+use Rattle.waldo_run.specs.Tasks.{common_in, reads_input, rows_in, rows_made, task_over}
 use Rattle.waldo_run.proofs.Reported.{read_reported, short_reading}
 use Rattle.waldo_run.proofs.Statuses.{refused_of}
 use Rattle.waldo_run.proofs.Tracing.{reported_status}
@@ -86,24 +86,19 @@ not_seven : (b : Bool) → status_by b ≢ 7 → status_by b ≡ 0
 not_seven true ne = absurd (ne refl)
 not_seven false ne = refl
 
-plain_zero : (style : Style) (task : Task) → HaveCases style task → (plain_in style task).status ≢ 7 → (plain_in style task).status ≡ 0
-plain_zero Queries task has ne = refl
-plain_zero Rounds task has ne =
+steps_zero : (style : Style) (task : Task) → StepsHaveCases style task → (plain_in style task).status ≢ 7 → (plain_in style task).status ≡ 0
+steps_zero Queries task has ne = refl
+steps_zero Rounds task has ne =
     let is = ap (λ (r : Result Stage ℕ). (ended r).status) has.1 in
     is ∙ not_seven has.0.altered (λ seven. ne (is ∙ seven))
 
--- of a range that ends within the rows
-within_zero : (s : Setting) (low high : ℕ) → high ≤ length s.rows → (plain_answer (Range s low high)).status ≡ 0
-within_zero s low high within = by (ltb (length s.rows) high) refl
+plain_zero : (work : Work) → HaveCases work → (plain_answer work).status ≢ 7 → (plain_answer work).status ≡ 0
+plain_zero (Steps task) has ne = steps_zero task.style task has ne
+plain_zero (Range s low high) has ne = by (ltb (length s.rows) high) refl
   where
-    by : (t : Bool) → ltb (length s.rows) high ≡ t
-        → (cond t (single 5 (lines.TooFew high)) (range_line low high (Ok (plain_count s low high)))).status ≡ 0
-    by true e = absurd (omega (arith, ltb-true (length s.rows) high e, within))
+    by : (t : Bool) → ltb (length s.rows) high ≡ t → (cond t (single 5 (lines.TooFew high)) (range_line low high (Ok (plain_count s low high)))).status ≡ 0
+    by true e = let lt = ltb-true (length s.rows) high e in absurd (omega arith)
     by false e = refl
-
-work_zero : (work : Work) → CanBeDone work → (plain_answer work).status ≢ 7 → (plain_answer work).status ≡ 0
-work_zero (Steps task) has ne = plain_zero task.style task has ne
-work_zero (Range s low high) within ne = within_zero s low high within
 
 zero_or_seven : (b : Bool) → (status_by b ≡ 0) ⊎ (status_by b ≡ 7)
 zero_or_seven true = inr refl
@@ -135,7 +130,7 @@ module _ (order : AskedInOrder) (source sink : Change) (carried : List Done → 
       let put = whole_put run.reply sink status dry run.puts in
       let own : run.reply.status ≡ (plain_answer work).status = ap (λ (r : Reply). r.status) is ∙ reported_status command rows (plain_answer work) in
       record {
-        done = put.0 ∙ own ∙ work_zero work has.cases (λ seven. run.replies.accepted still (own ∙ seven));
+        done = put.0 ∙ own ∙ plain_zero work has.cases (λ seven. run.replies.accepted still (own ∙ seven));
         text = subst (λ (r : Reply). Appends sink.old sink.new (text_of r.report)) is put.1;
       }
 
@@ -168,8 +163,8 @@ module _ (order : AskedInOrder) (source sink : Change) (carried : List Done → 
   ended_by (commands.Race c writers askers rounds) has run still = plainly_ended (commands.Race c writers askers rounds) has run (still refl)
   ended_by (commands.Make c number count) has run still = plainly_ended (commands.Make c number count) has run (still refl)
   ended_by (commands.Trace c) has run still = plainly_ended (commands.Trace c) has run (still refl)
-  ended_by (commands.Tamper c shifts) has run still = checked_ended c shifts has run
   ended_by (commands.Tree c low high) has run still = plainly_ended (commands.Tree c low high) has run (still refl)
+  ended_by (commands.Tamper c shifts) has run still = checked_ended c shifts has run
 
 pub completes : AskedInOrder → (said : Result Command WordFault) (source sink : Change) (carried : List Done → Type 0) (unaltered : ℕ → Type 0) (status : ℕ)
     → (Rose source.before source.now → ⊥) → (Rose sink.before sink.now → ⊥) → (AltersNothing said → (actor : ℕ) → unaltered actor)

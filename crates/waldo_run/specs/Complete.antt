@@ -29,20 +29,20 @@ abbrev pub GivesRows : Common → Option (List ℕ) → List Row → Type 0
 GivesRows common None rows = ⊥
 GivesRows common (Some bytes) rows = (length bytes ≤ most_bytes) × (rows_in common bytes ≡ Ok rows)
 
--- each step of a schedule has a case, its answers being plain; commands without a schedule have no other steps
-abbrev pub HaveCases : Style → Task → Type 0
-HaveCases Queries task = ⊤
-HaveCases Rounds task = (stage : Stage) × (played (plainly task.setting) task ≡ Ok stage)
+-- each step of a schedule has a case, its answers being plain; other steps always have one
+abbrev pub StepsHaveCases : Style → Task → Type 0
+StepsHaveCases Queries task = ⊤
+StepsHaveCases Rounds task = (stage : Stage) × (played (plainly task.setting) task ≡ Ok stage)
 
--- each step has a case, and a range of places ends within the rows
-abbrev pub CanBeDone : Work → Type 0
-CanBeDone (Steps task) = HaveCases task.style task
-CanBeDone (Range s low high) = high ≤ length s.rows
+-- the same of a command's work; and a range asks for no more rows than there are
+abbrev pub HaveCases : Work → Type 0
+HaveCases (Steps task) = StepsHaveCases task.style task
+HaveCases (Range s low high) = high ≤ length s.rows
 
--- a command whose input is accepted, or is not read; its rows; and its work over them can be done
+-- a command whose input is accepted, or is not read; its rows; and each of its steps has a case
 pub record IsAccepted (command : Command) (input : Option (List ℕ)) (rows : List Row) : Type 0 where
   pub gives : MatchBool (reads_input command) (GivesRows (common_in command) input rows) (rows ≡ rows_made command)
-  pub cases : CanBeDone (work_over command rows)
+  pub cases : HaveCases (work_over command rows)
 
 -- status 0, and the whole text of the plain reply
 pub record EndsPlainly (command : Command) (rows : List Row) (sink : Change) (status : ℕ) : Type 0 where
