@@ -33,7 +33,8 @@ function is_group() {
   if ($1 != "group" || $3 != "bucket" || !is_number($2, "15") || !is_number($4, "256")) return 0
   if ($5 == "rows")
     return NF == 8 && is_number($6, "65536") && ($7 == "count" || $7 == "sum") && is_number($8, greatest_total) && is_spaced()
-  return NF == 9 && $5 == "altered" && $6 == "total" && $8 == "weighted" && is_number($7, greatest_word) && is_number($9, greatest_word) && is_spaced()
+  return NF == 9 && $5 == "altered" && $6 == "total" && is_number($7, greatest_word) &&
+    $8 == "weighted" && is_number($9, greatest_word) && is_spaced()
 }
 
 function is_spaced(    i, text) {

@@ -4,8 +4,10 @@ BEGIN { left = 190; top = 50; wide = 640; high = 240; below = 60; all_high = top
 
 END {
   end_reading()
-  printf "<svg xmlns=\"http://www.w3.org/2000/svg\" width=\"%d\" height=\"%d\" viewBox=\"0 0 %d %d\" ", left + wide + 40, queries * all_high, left + wide + 40, queries * all_high
-  print "font-family=\"sans-serif\" font-size=\"13\" fill=\"#222\">"
+  right = left + wide + 40
+  bottom = queries * all_high
+  print "<svg xmlns=\"http://www.w3.org/2000/svg\" width=\"" right "\" height=\"" bottom "\" viewBox=\"0 0 " right " " bottom "\" " \
+    "font-family=\"sans-serif\" font-size=\"13\" fill=\"#222\">"
   print "<title>Totals by bucket</title>"
   print "<rect width=\"100%\" height=\"100%\" fill=\"#fff\"/>"
   for (q = 0; q < queries; q++) draw(q, q * all_high + top)
@@ -35,14 +37,19 @@ function draw_bucket(query, bucket, from, end,    step, at, tall) {
   step = wide / buckets[query]
   at = left + bucket * step
   if ((query, bucket) in refused) {
-    printf "<rect x=\"%.2f\" y=\"%d\" width=\"%.2f\" height=\"%d\" fill=\"#ccc\"><title>bucket %d: refused, the check found it altered</title></rect>\n", at + step / 8, from, step * 3 / 4, high, bucket
+    print field(at + step / 8, from, step * 3 / 4, high, "#ccc", "bucket " bucket ": refused, the check found it altered")
     if (buckets[query] <= 16) print label(at + step / 2, from + high / 2, "middle", buckets[query] <= 8 ? "refused" : "?", "")
   } else {
     tall = (total[query, bucket] + 0) / end * high
-    printf "<rect x=\"%.2f\" y=\"%.2f\" width=\"%.2f\" height=\"%.2f\" fill=\"#36c\"><title>bucket %d: %s</title></rect>\n", at + step / 8, from + high - tall, step * 3 / 4, tall, bucket, total[query, bucket]
+    print field(at + step / 8, from + high - tall, step * 3 / 4, tall, "#36c", "bucket " bucket ": " total[query, bucket])
     if (7 * length(total[query, bucket]) < step) print label(at + step / 2, from + high - tall - 4, "middle", total[query, bucket], "")
   }
   if (bucket % (buckets[query] <= 32 ? 1 : 16) == 0) print label(at + step / 2, from + high + 20, "middle", bucket, "")
+}
+
+function field(x, y, across, tall, colour, words,    form) {
+  form = "<rect x=\"%.2f\" y=\"%.2f\" width=\"%.2f\" height=\"%.2f\" fill=\"%s\"><title>%s</title></rect>"
+  return sprintf(form, x, y, across, tall, colour, words)
 }
 
 function label(x, y, anchor, words, more) {

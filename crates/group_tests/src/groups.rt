@@ -152,30 +152,104 @@ fn ask<R: Threads + Sync, W: Wire>(
     group_runs(rt, alloc, &mut shelves, keys, 0, wire, trace)
 }
 
+fn good(total: u64) -> GroupAnswer {
+    GroupAnswer::Good { total }
+}
+
+// What the client answers over a wire that alters nothing, how many messages there are, and how many visits of a server.
+#[derive(Drop)]
+struct Told {
+    answers: GroupAnswers,
+    messages: usize,
+    visits: usize,
+}
+
+fn tell<R: Abort + Threads + Sync>(
+    rt: &R,
+    alloc: Global,
+    keys: &Keys,
+    rows: u64,
+    width: u64,
+    cells: &[u128],
+    values: &[u128],
+) -> Result<Told, Memory>
+    requires few { rows ≤ 64 }
+    requires columns { keys.now.widths.columns ≡ 1 }
+    requires width { width ≡ width_of keys.now.widths 0 }
+    requires wide { 0 < width }
+    requires cells { length cells.now ≡ rows * width }
+    requires values { length values.now ≡ rows }
+{
+    let mut wire = RecordWire::new(alloc);
+    let mut trace = Trace::new(alloc);
+    let totals = ask(
+        rt, alloc, keys, rows, width, cells, values, &mut wire, &mut trace,
+    )?;
+    let answers = check_groups(alloc, &totals, keys.key())?;
+    Ok(Told {
+        answers,
+        messages: wire.messages().len(),
+        visits: trace.visits(1).len(),
+    })
+}
+
 // The sum of all rows by host: nothing, 20, nothing, and 10 + 5.
 #[test]
 fn a_sum_by_bucket(rt: HostRuntime) -> Result<(), Memory> {
     let alloc = rt.alloc();
     let widths = FOUR;
     let keys = keys(&rt, alloc, &widths, Aggregate::Sum, Kind::AtMost, 3)?;
-    let mut wire = RecordWire::new(alloc);
-    let mut trace = Trace::new(alloc);
-    let totals = ask(
-        &rt, alloc, &keys, 3, 4, &CELLS, &VALUES, &mut wire, &mut trace,
-    )?;
-    let key = keys.key();
-    let wanted: &[u128] = &[0, 20, 0, 15];
-    let weighted: &[u128] = &[0, mul(20, key), 0, mul(15, key)];
-    assert!(rt; totals.total.as_slice() == wanted);
-    assert!(rt; totals.weighted.as_slice() == weighted);
-    assert_eq!(rt; wire.messages().len(), 21);
-    let answers = check_groups(alloc, &totals, key)?;
-    assert!(rt; answers.as_slice() == [good(0), good(20), good(0), good(15)].as_slice());
+    let told = tell(&rt, alloc, &keys, 3, 4, &CELLS, &VALUES)?;
+    let wanted = [good(0), good(20), good(0), good(15)];
+    assert!(rt; told.answers.as_slice() == wanted.as_slice());
+    assert_eq!(rt; told.messages, 21);
+    assert_eq!(rt; told.visits, 6);
     Ok(())
 }
 
-fn good(total: u64) -> GroupAnswer {
-    GroupAnswer::Good { total }
+// How many rows have host 0 or 1, by host. No message goes around for the values, which no server visits.
+#[test]
+fn a_count_by_bucket(rt: HostRuntime) -> Result<(), Memory> {
+    let alloc = rt.alloc();
+    let widths = FOUR;
+    let keys = keys(&rt, alloc, &widths, Aggregate::Count, Kind::AtMost, 1)?;
+    let told = tell(&rt, alloc, &keys, 3, 4, &CELLS, &VALUES)?;
+    let wanted = [good(0), good(1), good(0), good(0)];
+    assert!(rt; told.answers.as_slice() == wanted.as_slice());
+    assert_eq!(rt; told.messages, 15);
+    assert_eq!(rt; told.visits, 4);
+    Ok(())
+}
+
+// Two rows of 256 buckets: the last one with value 7, and the first one with 9.
+#[test]
+fn a_column_of_eight_bits(rt: HostRuntime) -> Result<(), Memory> {
+    let alloc = rt.alloc();
+    let widths = MANY;
+    let keys = keys(&rt, alloc, &widths, Aggregate::Sum, Kind::AtMost, 255)?;
+    let mut cells = vec![in alloc; 0; 512]?;
+    cells[255] = 1;
+    cells[256] = 1;
+    let told = tell(&rt, alloc, &keys, 2, 256, cells.as_slice(), &[7, 9])?;
+    let mut wanted = vec![in alloc; good(0); 256]?;
+    wanted[0] = good(9);
+    wanted[255] = good(7);
+    assert!(rt; told.answers.as_slice() == wanted.as_slice());
+    Ok(())
+}
+
+// Without rows each bucket has the total 0, and there is nothing to visit.
+#[test]
+fn an_empty_table(rt: HostRuntime) -> Result<(), Memory> {
+    let alloc = rt.alloc();
+    let widths = FOUR;
+    let keys = keys(&rt, alloc, &widths, Aggregate::Count, Kind::Point, 3)?;
+    let told = tell(&rt, alloc, &keys, 0, 4, &[], &[])?;
+    let wanted = [good(0), good(0), good(0), good(0)];
+    assert!(rt; told.answers.as_slice() == wanted.as_slice());
+    assert_eq!(rt; told.messages, 15);
+    assert_eq!(rt; told.visits, 0);
+    Ok(())
 }
 
 // In each run a server visits the chunk of the predicate's column, that of the values, and that of the groups' column. It sees the
@@ -204,72 +278,6 @@ fn a_server_sees_sizes(rt: HostRuntime) -> Result<(), Memory> {
         assert!(rt; trace.visits(server) == visits);
         assert!(rt; trace.lengths(server) == lengths);
     }
-    Ok(())
-}
-
-// Where rows are counted, no message goes around for the values.
-#[test]
-fn a_count_by_bucket(rt: HostRuntime) -> Result<(), Memory> {
-    let alloc = rt.alloc();
-    let widths = FOUR;
-    let keys = keys(&rt, alloc, &widths, Aggregate::Count, Kind::AtMost, 1)?;
-    let mut wire = RecordWire::new(alloc);
-    let mut trace = Trace::new(alloc);
-    let totals = ask(
-        &rt, alloc, &keys, 3, 4, &CELLS, &VALUES, &mut wire, &mut trace,
-    )?;
-    let wanted: &[u128] = &[0, 1, 0, 0];
-    let weighted: &[u128] = &[0, keys.key(), 0, 0];
-    assert!(rt; totals.total.as_slice() == wanted);
-    assert!(rt; totals.weighted.as_slice() == weighted);
-    assert_eq!(rt; wire.messages().len(), 15);
-    Ok(())
-}
-
-// Two rows of 256 buckets: the last one with value 7, and the first one with 9.
-#[test]
-fn a_column_of_eight_bits(rt: HostRuntime) -> Result<(), Memory> {
-    let alloc = rt.alloc();
-    let widths = MANY;
-    let keys = keys(&rt, alloc, &widths, Aggregate::Sum, Kind::AtMost, 255)?;
-    let mut cells = vec![in alloc; 0; 512]?;
-    cells[255] = 1;
-    cells[256] = 1;
-    let mut wire = RecordWire::new(alloc);
-    let mut trace = Trace::new(alloc);
-    let totals = ask(
-        &rt,
-        alloc,
-        &keys,
-        2,
-        256,
-        cells.as_slice(),
-        &[7, 9],
-        &mut wire,
-        &mut trace,
-    )?;
-    let mut wanted = vec![in alloc; 0; 256]?;
-    wanted[0] = 9;
-    wanted[255] = 7;
-    assert!(rt; totals.total.as_slice() == wanted.as_slice());
-    let answers = check_groups(alloc, &totals, keys.key())?;
-    assert_eq!(rt; answers.as_slice().len(), 256);
-    Ok(())
-}
-
-// Without rows each bucket has the total 0, and there is nothing to visit.
-#[test]
-fn an_empty_table(rt: HostRuntime) -> Result<(), Memory> {
-    let alloc = rt.alloc();
-    let widths = FOUR;
-    let keys = keys(&rt, alloc, &widths, Aggregate::Count, Kind::Point, 3)?;
-    let mut wire = RecordWire::new(alloc);
-    let mut trace = Trace::new(alloc);
-    let totals = ask(&rt, alloc, &keys, 0, 4, &[], &[], &mut wire, &mut trace)?;
-    let answers = check_groups(alloc, &totals, keys.key())?;
-    assert!(rt; answers.as_slice() == [good(0), good(0), good(0), good(0)].as_slice());
-    assert_eq!(rt; wire.messages().len(), 15);
-    assert_eq!(rt; trace.visits(0).len(), 0);
     Ok(())
 }
 
