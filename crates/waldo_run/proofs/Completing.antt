@@ -97,7 +97,7 @@ plain_zero (Steps task) has ne = steps_zero task.style task has ne
 plain_zero (Range s low high) has ne = by (ltb (length s.rows) high) refl
   where
     by : (t : Bool) → ltb (length s.rows) high ≡ t → (cond t (single 5 (lines.TooFew high)) (range_line low high (Ok (plain_count s low high)))).status ≡ 0
-    by true e = let lt = ltb-true (length s.rows) high e in absurd (omega arith)
+    by true e = let le : high ≤ length s.rows = has in let lt = ltb-true (length s.rows) high e in absurd (omega arith)
     by false e = refl
 
 zero_or_seven : (b : Bool) → (status_by b ≡ 0) ⊎ (status_by b ≡ 7)
