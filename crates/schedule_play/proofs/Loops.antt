@@ -42,7 +42,7 @@ parts_all f n m lt =
 pub steps_all : (xs : List Step) (i : ℕ) (d : Step) → i < length xs → xs ≡ (take i xs ++ get_or xs i d ∷ []) ++ drop (i + 1) xs
 steps_all xs i d lt = sym (take-append-drop (i + 1) xs) ∙ ap (λ (l : List Step). l ++ drop (i + 1) xs) (take_more xs i d lt)
 
--- how many steps the parts of so many numbers are
+-- how many steps the parts of n numbers are
 pub length-parts : (f : ℕ → List Step) (k a n : ℕ) → ((i : ℕ) → length (f i) ≡ k) → length (flat_map f (range_with_len a n)) ≡ k * n
 length-parts f k a zero long = omega arith
 length-parts f k a (suc n) long =

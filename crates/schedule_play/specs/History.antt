@@ -1,5 +1,6 @@
 -- The messages of steps, and what they opened.
-use Rattle.std.specs.Prelude.{ℕ, zero, suc, ◌≡◌, ◌==◌, ◌⊎◌, ◌&&◌, ◌++◌, ⊤, Bool, true, false, if◌then◌else◌, IsSomeAnd, Option, Some, None, List, [], ◌∷◌}
+use Rattle.std.specs.Prelude.{ℕ, zero, suc, ◌≡◌, ◌==◌, ◌⊎◌, ◌&&◌, ◌++◌, ⊤, Bool, true, false, if◌then◌else◌, IsSomeAnd, Option, Some, None}
+use Rattle.std.specs.Prelude.{List, [], ◌∷◌}
 use Rattle.std.specs.List.{list_any}
 use Rattle.table_schema.specs.declared.widths.Widths.{Widths}
 use Rattle.server_rounds.specs.declared.opened.OpenedPair.{OpenedPair}
@@ -52,7 +53,9 @@ abbrev pub Breaks : Widths → Setting → Style → Stage → List Step → Lis
 Breaks w s style stage xs [] = ⊤
 Breaks w s style stage [] (d ∷ ds) = ⊥
 Breaks w s style stage (x ∷ xs) (d ∷ ds) =
-    (d.step ≡ x) × ((IsCarried w s stage d × IsSomeAnd (next_stage s style stage x d.pair) (λ (next : Stage). Breaks w s style next xs ds)) ⊎ (IsBegun w s stage d × (ds ≡ [])))
+    (d.step ≡ x)
+    × ((IsCarried w s stage d × IsSomeAnd (next_stage s style stage x d.pair) (λ (next : Stage). Breaks w s style next xs ds))
+    ⊎ (IsBegun w s stage d × (ds ≡ [])))
 
 -- the history of a task, and that of one that was broken off
 abbrev pub HasHistory : Widths → Task → List Done → Type 0

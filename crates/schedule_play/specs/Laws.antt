@@ -72,9 +72,11 @@ HasLine i line (Err t) = ⊥
 
 -- A query whose messages were received as they were sent has its plain answer in its line, whatever was altered in the others.
 abbrev pub AskedHonestly : Type 0
-AskedHonestly = (w : Widths) (s : Setting) (history : List Done) → IsSetting w s → HasHistory w (asking s) history → ArePlain s Queries first_stage history
+AskedHonestly = (w : Widths) (s : Setting) (history : List Done) → IsSetting w s → HasHistory w (asking s) history
+    → ArePlain s Queries first_stage history
     → (i : ℕ) (query : Query) → slice_get s.queries i ≡ Some query → IsHonest (messages_of_query s history i)
-    → HasLine i (lines.Answer (Single i) (length s.rows) query.aggregate (word_of (plain query s.rows))) (played (opened_in history) (asking s))
+    → HasLine i (lines.Answer (Single i) (length s.rows) query.aggregate (word_of (plain query s.rows)))
+    (played (opened_in history) (asking s))
 
 -- Where each message was received as it was sent, and what such answers opened is plain, steps come to what they come to plainly.
 abbrev pub PlainlyPlayed : Type 0

@@ -18,11 +18,13 @@ Advances w s style stage [] [] end = end ≡ stage
 Advances w s style stage [] (d ∷ ds) end = ⊥
 Advances w s style stage (x ∷ xs) [] end = ⊥
 Advances w s style stage (x ∷ xs) (d ∷ ds) end =
-    (d.step ≡ x) × IsCarried w s stage d × IsSomeAnd (next_stage s style stage x d.pair) (λ (next : Stage). Advances w s style next xs ds end)
+    (d.step ≡ x) × IsCarried w s stage d
+    × IsSomeAnd (next_stage s style stage x d.pair) (λ (next : Stage). Advances w s style next xs ds end)
 
 -- the steps were done over these wires; an unaltered one changed no message; where none was altered, no check refused a pair
 pub record Leads {W : Type 0} (sight : Sight W)
-    (w : Widths) (s : Setting) (style : Style) (stage : Stage) (before : List W) (xs : List Step) (end : Stage) (after : List W) : Type 0 where
+    (w : Widths) (s : Setting) (style : Style) (stage : Stage) (before : List W) (xs : List Step) (end : Stage)
+    (after : List W) : Type 0 where
   pub history : List Done
   pub sent : Carried sight before after history
   pub honest : AreHonest (Unaltered sight before after) history
@@ -32,12 +34,14 @@ pub record Leads {W : Type 0} (sight : Sight W)
 
 -- the first step without a case, by its number, where the first one has number t; or some first steps, and then it was out of memory
 abbrev pub EndsAt : Widths → Setting → Style → ℕ → Stage → List Step → List Done → PlayFault → Type 0
-EndsAt w s style t stage xs history (NotAllowed index) = IsHistory w s style stage xs history × (length history < length xs) × (index ≡ t + length history)
+EndsAt w s style t stage xs history (NotAllowed index) = IsHistory w s style stage xs history × (length history < length xs)
+    × (index ≡ t + length history)
 EndsAt w s style t stage xs history Memory = Breaks w s style stage xs history
 
 -- not all of the steps were done
 pub record Stops {W : Type 0} (sight : Sight W)
-    (w : Widths) (s : Setting) (style : Style) (t : ℕ) (stage : Stage) (before : List W) (xs : List Step) (after : List W) (fault : PlayFault) : Type 0 where
+    (w : Widths) (s : Setting) (style : Style) (t : ℕ) (stage : Stage) (before : List W) (xs : List Step) (after : List W)
+    (fault : PlayFault) : Type 0 where
   pub history : List Done
   pub sent : Carried sight before after history
   pub honest : AreHonest (Unaltered sight before after) history

@@ -26,9 +26,10 @@ Ended w task history (Ok p) = HasHistory w task history × EndsWith p (played (o
 Ended w task history (Err (NotAllowed t)) = HasHistory w task history × (played (opened_in history) task ≡ Err t)
 Ended w task history (Err Memory) = HasBroken w task history
 
--- The steps sent these messages over the wires, of which an unaltered one changed none; each answer whose messages were not changed opened the
--- plain one; this is what they came to; and where no wire was altered no check refused a pair.
-pub record Plays (w : Widths) (task : Task) (carried : List Done → Type 0) (unaltered : ℕ → Type 0) (result : Result Played PlayFault) : Type 0 where
+-- The steps sent these messages over the wires, of which an unaltered one changed none; each answer whose messages were not changed
+-- opened the plain one; this is what they came to; and where no wire was altered no check refused a pair.
+pub record Plays (w : Widths) (task : Task) (carried : List Done → Type 0) (unaltered : ℕ → Type 0)
+    (result : Result Played PlayFault) : Type 0 where
   pub history : List Done
   pub sent : carried history
   pub honest : AreHonest unaltered history

@@ -1,5 +1,6 @@
 -- What steps come to, one after another.
-use Rattle.std.specs.Prelude.{ℕ, ◌+◌, ◌<◌, ◌||◌, All, Bool, true, false, if◌then◌else◌, Option, Some, None, option_map, Result, Ok, Err, List, [], ◌∷◌, ◌++◌, length, slice_get, slice_set, slice_index_or}
+use Rattle.std.specs.Prelude.{ℕ, ◌+◌, ◌<◌, ◌||◌, All, Bool, true, false, if◌then◌else◌, Option, Some, None, option_map, Result, Ok, Err}
+use Rattle.std.specs.Prelude.{List, [], ◌∷◌, ◌++◌, length, slice_get, slice_set, slice_index_or}
 use Rattle.list_facts.specs.Listed.{listed}
 use Rattle.prg_chacha.specs.Prg.{derive_of}
 use Rattle.query_plan.specs.declared.query.Query.{Query}
@@ -147,7 +148,8 @@ go_on rest t (Some stage) = rest stage
 -- The last stage of some steps, the first of which has this number; or the number of the first step without a case.
 abbrev pub played_on : Setting → Style → Opening → ℕ → Stage → List Step → Result Stage ℕ
 played_on s style opens t stage [] = Ok stage
-played_on s style opens t stage (x ∷ xs) = go_on (λ (next : Stage). played_on s style opens (t + 1) next xs) t (next_stage s style stage x (opens t stage x))
+played_on s style opens t stage (x ∷ xs)
+    = go_on (λ (next : Stage). played_on s style opens (t + 1) next xs) t (next_stage s style stage x (opens t stage x))
 
 -- the same of all steps of a task
 abbrev pub played : Opening → Task → Result Stage ℕ

@@ -1,5 +1,6 @@
 //! A machine on which steps are done one after another, and what is reported of them.
-ghost use Rattle.std.specs.Prelude.{ℕ, ◌≡◌, ◌+◌, ◌*◌, ◌^◌, ◌<◌, ◌≤◌, [], ◌∷◌, ◌++◌, if◌then◌else◌, IfErr, IfOk, OnErr, OnOk, length, option_to_list, slice_get, slice_set, slice_index_or};
+ghost use Rattle.std.specs.Prelude.{ℕ, ◌≡◌, ◌+◌, ◌*◌, ◌^◌, ◌<◌, ◌≤◌, [], ◌∷◌, ◌++◌, if◌then◌else◌, IfErr, IfOk, OnErr, OnOk, length};
+ghost use Rattle.std.specs.Prelude.{option_to_list, slice_get, slice_set, slice_index_or};
 ghost use Rattle.schedule_play.specs.Appended.{stage_with_rows};
 ghost use Rattle.schedule_play.specs.Leads.{Leads, Stops};
 ghost use Rattle.schedule_play.specs.Plays.{seen};

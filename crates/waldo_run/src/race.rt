@@ -1,5 +1,6 @@
 //! A run of `race`, from bytes in to bytes out.
-ghost use Rattle.std.specs.Prelude.{◌≡◌, ◌≢◌, ◌≤◌, ◌⊎◌, [], true, All, List, if◌then◌else◌, map, string_bytes, Ok, IfOk, IfSome, IsErr, length};
+ghost use Rattle.std.specs.Prelude.{◌≡◌, ◌≢◌, ◌≤◌, ◌⊎◌, [], true, All, List, if◌then◌else◌};
+ghost use Rattle.std.specs.Prelude.{map, string_bytes, Ok, IfOk, IfSome, IsErr, length};
 ghost use Rattle.query_plan.specs.Query.{AreWidthsOf};
 ghost use Rattle.race_play.specs.Askers.{CarriedEach};
 ghost use Rattle.table_schema.specs.Widths.{Holds};

@@ -1,5 +1,6 @@
 -- What the command words say.
-use Rattle.std.specs.Prelude.{ℕ, ◌-◌, ◌+◌, ◌==◌, not, Bool, true, false, List, [], ◌∷◌, Option, Some, None, Result, Ok, Err, if◌then◌else◌, bytes_eq, nat_le, nat_lt, unwrap_or, codes}
+use Rattle.std.specs.Prelude.{ℕ, ◌-◌, ◌+◌, ◌==◌, not, Bool, true, false, List, [], ◌∷◌, Option, Some, None, Result, Ok, Err, if◌then◌else◌}
+use Rattle.std.specs.Prelude.{bytes_eq, nat_le, nat_lt, unwrap_or, codes}
 use Rattle.std.specs.Option.{ok_or}
 use Rattle.table_schema.specs.Schema.{schema_of}
 use Rattle.table_schema.specs.Widths.{largest_in}
