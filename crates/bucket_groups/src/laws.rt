@@ -39,7 +39,8 @@ pub fn one_bucket_refused(
     requires there { bucket < length total.now }
     requires total { slice_index total.now bucket ≡ shifted_total plain d }
     requires weighted { slice_index weighted.now bucket ≡ shifted_weighted key plain e }
-    ensures { answer_at (answers_of total.now weighted.now key) bucket ≡ Altered (slice_index total.now bucket) (slice_index weighted.now bucket) }
+    ensures { answer_at (answers_of total.now weighted.now key) bucket
+        ≡ Altered (slice_index total.now bucket) (slice_index weighted.now bucket) }
 {
     one_shift(plain, d, e, key);
 }

@@ -22,7 +22,8 @@ fn last_visits<S: Shelf>(shelf: &S) -> &[Visit]
 // Notes those of a server's shelves.
 fn note_shelves<S: Shelf>(trace: &mut Trace, server: u8, shelves: &[S]) -> Result<(), Memory>
     requires { HaveVisits S.held S.visited shelves.now }
-    ensures { GrewBy trace.old trace.new (only_at server (record { visits = shelves_last S.held S.visited shelves.now; lengths = [] })) result }
+    ensures { let last = shelves_last S.held S.visited shelves.now in
+        GrewBy trace.old trace.new (only_at server (record { visits = last; lengths = [] })) result }
 {
     for shelf in shelves {
         trace.note_visits(server, last_visits(shelf))?;

@@ -108,7 +108,8 @@ pub fn group_runs<R: Threads + Sync, S: Shelf + Send, W: Wire>(
         (pieces_of (map S.held shelves.old.one.items)) (pieces_of (map S.held shelves.old.two.items)) in
         IfOk result (λ t. ¬ HasAltered W.sight wire.old wire.new → (rows : List Row) → HoldRows keys.now.widths rows pieces
         → length rows ≡ rows_of (map S.held shelves.old.zero.items) → AreGrouped keys.now column rows t.total t.weighted) }
-    ensures trace { GrewBy trace.old trace.new (group_trace (sizes_for keys.now (rows_of (map S.held shelves.old.zero.items))) column) result }
+    ensures trace { let z = sizes_for keys.now (rows_of (map S.held shelves.old.zero.items)) in
+        GrewBy trace.old trace.new (group_trace z column) result }
 {
     keys.shape();
     let rows = count_rows(shelves.zero.as_slice());
