@@ -2,7 +2,7 @@
 
 `expected` gives the outcome; `Outcome.fault` says what is wrong with a status and a text, or None. Words and input are bytes. Messages,
 keys and shares play no part: where nothing is altered each answer is the plain count or sum, and what `trace` prints follows from the
-sizes alone. `tamper`, whose text needs the key, is not known here.
+sizes alone. `tamper`, whose text needs the key, and `tree` are not known here.
 
 The records of an input are not read by Python's own `csv`, which differs from the kit's: it keeps a byte order mark, gives an empty
 record for an empty line, and refuses a carriage return inside an unquoted field and, in earlier versions, a byte of 0.

@@ -26,7 +26,7 @@ def command(name, *words):
     return [word.encode() for word in (name, "host:2", *words)]
 
 
-# Name, words and input. Runs whose command the program hasn't yet are skipped. The input of 3,000 rows takes three reads and one that
+# Name, words and input. The input of 3,000 rows takes three reads and one that
 # finds the end; there is no more to learn of it without memory.
 LONG = "ask over 3,000 rows"
 RUNS = [
@@ -40,6 +40,8 @@ RUNS = [
     ("race of 3 and 2", command("race", *QUERY, "--query", "sum host<=2", "--writers", "3", "--askers", "2", "--rounds", "2"), rows(12)),
     ("trace", command("trace", "--query", "sum host=0..1"), ZEROS),
     ("tamper", command("tamper", *QUERY, "--shift", "6:0:1"), INPUT),
+    ("tree", command("tree", *QUERY, "--from", "0", "--to", "3"), INPUT),
+    ("tree of too few rows", command("tree", *QUERY, "--from", "1", "--to", "4"), INPUT),
     ("a refused word", command("ask", "--query", "count host=4"), INPUT),
     ("a refused step", command("replay", *QUERY, "--schedule", "d0 d0"), INPUT),
     ("a refused row", command("ask", *QUERY), INPUT + b"4,1\n"),
