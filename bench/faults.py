@@ -26,7 +26,7 @@ def command(name, *words):
     return [word.encode() for word in (name, "host:2", *words)]
 
 
-# Name, words and input. The input of 3,000 rows takes three reads and one that
+# Name, words and input. Runs whose command the program hasn't yet are skipped. The input of 3,000 rows takes three reads and one that
 # finds the end; there is no more to learn of it without memory.
 LONG = "ask over 3,000 rows"
 RUNS = [
