@@ -2,4 +2,6 @@
 #![tactic(auto)]
 
 #[cfg(test)]
+mod agreed;
+#[cfg(test)]
 mod groups;
