@@ -4,7 +4,7 @@ use prg_chacha::Seed;
 use query_plan::{Predicate, Query, make_keys};
 use ring128::{Memory, Words, add, mul, sub};
 use row_tree::{Node, RowTree, TreePair, Trees, cover, tree_runs};
-use scan_chunks::{Column, OwnedShelf};
+use scan_chunks::{Column, OwnedShelf, Shelf};
 use std::alloc::Global;
 use std::process::Abort;
 use std::test::Fail;
@@ -59,12 +59,13 @@ fn values(alloc: Global, rows: u64) -> Result<Column, Memory>
     })
 }
 
-// The tree of server k over these rows.
-fn tree(alloc: Global, rows: u64, k: u8) -> Result<RowTree, Memory>
+// What server k holds of these rows.
+fn shelf(alloc: Global, rows: u64, k: u8) -> Result<OwnedShelf, Memory>
     requires few { rows ≤ 65536 }
     requires k { k < 3 }
-    ensures rows { IfOk result (λ t. t.rows ≡ rows) }
-    ensures width { IfOk result (λ t. t.width ≡ 4) }
+    ensures columns { IfOk result (λ s. let h = ⟦<OwnedShelf as Shelf>⟧.held s in h.columns ≡ 1) }
+    ensures width { IfOk result (λ s. let h = ⟦<OwnedShelf as Shelf>⟧.held s in h.width 0 ≡ 4) }
+    ensures rows { IfOk result (λ s. let h = ⟦<OwnedShelf as Shelf>⟧.held s in h.rows ≡ rows) }
 {
     let column = Column {
         width: 4,
@@ -72,7 +73,17 @@ fn tree(alloc: Global, rows: u64, k: u8) -> Result<RowTree, Memory>
         second: share(alloc, rows, (k + 1) % 3)?,
     };
     let columns = vec![in alloc; column, values(alloc, rows)?]?;
-    let mut shelf = OwnedShelf::new(alloc, rows, 0, columns);
+    Ok(OwnedShelf::new(alloc, rows, 0, columns))
+}
+
+// The tree of server k over these rows.
+fn tree(alloc: Global, rows: u64, k: u8) -> Result<RowTree, Memory>
+    requires few { rows ≤ 65536 }
+    requires k { k < 3 }
+    ensures rows { IfOk result (λ t. t.rows ≡ rows) }
+    ensures width { IfOk result (λ t. t.width ≡ 4) }
+{
+    let mut shelf = shelf(alloc, rows, k)?;
     let mut tree = RowTree::new(alloc, 0, 4);
     tree.add_rows(alloc, &mut shelf)?;
     Ok(tree)
