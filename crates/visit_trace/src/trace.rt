@@ -1,6 +1,6 @@
 //! Traces, and what is noted in them.
 ghost use Rattle.std.specs.Prelude.{◌≡◌, ◌↔◌, ◌<◌, ◌++◌, IsTrue, OnOk, OnErr, vec_len, vec_capacity};
-ghost use Rattle.visit_trace.specs.Seen.{Grew, alike, is_server, length_at, message_seen, nothing, only_at, seen_by};
+ghost use Rattle.visit_trace.specs.Seen.{AddsPrefix, Grew, GrewBy, alike, is_server, length_at, message_seen, nothing, only_at, seen_by};
 
 use ring128::Memory;
 use scan_chunks::Visit;
@@ -25,6 +25,18 @@ impl Notes {
             visits: Vec::new(alloc),
             lengths: Vec::new(alloc),
         }
+    }
+
+    // Adds what other notes hold, the visits first.
+    fn add(&mut self, other: &Notes) -> Result<(), Memory>
+        ensures visits { OnOk result (self.new.visits.items ≡ self.old.visits.items ++ other.now.visits.items) }
+        ensures lengths { OnOk result (self.new.lengths.items ≡ self.old.lengths.items ++ other.now.lengths.items) }
+        ensures fewer { OnErr result (AddsPrefix self.old.visits.items self.new.visits.items other.now.visits.items) }
+        ensures shorter { OnErr result (AddsPrefix self.old.lengths.items self.new.lengths.items other.now.lengths.items) }
+    {
+        self.visits.extend_from_slice(&other.visits)?;
+        self.lengths.extend_from_slice(&other.lengths)?;
+        Ok(())
     }
 }
 
@@ -112,6 +124,15 @@ impl Trace {
         note_length(&mut self.one.lengths, 1, sender, receiver, length);
         note_length(&mut self.two.lengths, 2, sender, receiver, length);
         Ok(())
+    }
+
+    /// Notes all that another trace holds, at each server behind what stands there. Out of memory each server has a prefix of it.
+    pub fn note_trace(&mut self, other: &Trace) -> Result<(), Memory>
+        ensures { GrewBy self.old self.new other.now result }
+    {
+        self.zero.add(&other.zero)?;
+        self.one.add(&other.one)?;
+        self.two.add(&other.two)
     }
 }
 
