@@ -45,7 +45,7 @@ drop-sums (suc k) [] ys = refl
 drop-sums (suc k) (x ∷ xs) [] = sym (sums_none (drop k xs))
 drop-sums (suc k) (x ∷ xs) (y ∷ ys) = drop-sums k xs ys
 
-sums-append : (xs ys xs' ys' : List ℕ) → length xs ≡ length ys → sums (xs ++ xs') (ys ++ ys') ≡ sums xs ys ++ sums xs' ys'
+pub sums-append : (xs ys xs' ys' : List ℕ) → length xs ≡ length ys → sums (xs ++ xs') (ys ++ ys') ≡ sums xs ys ++ sums xs' ys'
 sums-append [] [] xs' ys' e = refl
 sums-append [] (y ∷ ys) xs' ys' e = absurd (omega arith)
 sums-append (x ∷ xs) [] xs' ys' e = absurd (omega arith)

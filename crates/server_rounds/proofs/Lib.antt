@@ -9,3 +9,4 @@ pub mod OneServer
 pub mod Adding
 pub mod Visiting
 pub mod Noting
+pub mod Zeroed

@@ -1,5 +1,5 @@
 -- What a step notes is what its shelves visited, and what its messages are long.
-use Rattle.std.proofs.Common.{◌≡◌, ◌∙◌, sym, ap, subst, refl, ℕ, zero, suc, ◌+◌, ◌-◌, ◌*◌, ◌<◌, ◌≤◌, List, [], ◌∷◌, ◌++◌, length, map, take, drop, get_or, append-nil, take-append-drop, All, arith, length-append, Result, Ok, Err, Option, Some, None}
+use Rattle.std.proofs.Common.{◌≡◌, ◌∙◌, sym, ap, subst, refl, ℕ, zero, suc, ◌+◌, ◌-◌, ◌*◌, ◌<◌, ◌≤◌, List, [], ◌∷◌, ◌++◌, length, map, take, drop, get_or, append-nil, take-append-drop, arith, length-append, Result, Option, Some, None}
 use Rattle.std.specs.List.{AllZip, flat_map}
 use Rattle.std.specs.Result.{IsErr}
 use Rattle.std.proofs.lemmas.List.{drop-append-le, drop_all, take_more, take_all}
@@ -17,7 +17,7 @@ use Rattle.table_schema.specs.declared.shapes.Aggregate.TheVariants.{Count, Sum}
 use Rattle.table_schema.specs.declared.widths.Widths.{Widths}
 use Rattle.query_plan.specs.KeyMessages.{message_length}
 use Rattle.visit_trace.specs.Seen.{AllSeen, Seen, Grew, GrewBy, GrewPrefix, message_seen, nothing, only_at, alike}
-use Rattle.visit_trace.specs.Growing.{by_cut, by_stopped, by_then, grew_both, grew_nothing, part_then, parts_join, prefix_begun, prefix_cut, prefix_whole, seen_then, then_at}
+use Rattle.visit_trace.specs.Growing.{by_stopped, by_then, grew_both, grew_nothing, parts_join, prefix_begun, prefix_cut, prefix_whole, seen_then, then_at}
 use Rattle.visit_trace.specs.Expected.{bits_part, chunk_visits, keys_part, opening_part, part_seen, product_lengths, product_part, products_part, run_lengths, run_part, step_lengths, trace_of, visits_over}
 use Rattle.visit_trace.specs.Sizes.{column_of, count_of, opened_columns, predicate_columns, run_columns}
 use Rattle.visit_trace.specs.declared.sizes.Sizes.{Sizes}

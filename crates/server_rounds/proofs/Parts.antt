@@ -14,8 +14,10 @@ use Rattle.query_plan.specs.Views.{View}
 use Rattle.transcript.specs.Setup.{Sizes, count_of, column_of}
 use Rattle.transcript.specs.Steps.{bits, product, counter_of}
 use Rattle.transcript.specs.Formulas.{bits_words, product_words}
-use Rattle.share_product.specs.Product.{local_rows_of}
-use Rattle.server_rounds.specs.Groups.{Pairs, AreLong, first_of}
+use Rattle.share_product.specs.Product.{locals_of}
+use Rattle.share_product.proofs.Products.{rows_with_zero}
+use Rattle.server_rounds.specs.Groups.{Pairs, AreLong, first_of, second_of}
+use Rattle.server_rounds.specs.Rounds.{bit_numbers, locals_at}
 
 pub total_of-below : (xs : List ℕ) → total_of xs < 2 ^ 128
 total_of-below [] = omega arith
@@ -40,19 +42,34 @@ with_zeros rows f own next start numbers e =
     ∙ ap (λ (l : List ℕ). sums l (parts_of own next start rows)) e
     ∙ sums-listed rows f (λ i. part_of own next (start + i))
 
-pub bits_are_words : (z : Sizes) (run : ℕ) (view : View) (pieces : Pieces) (j : ℕ) (numbers zeros ones : List ℕ) (own next : Seed) (start column : ℕ)
-    → column ≡ column_of z j → zeros ≡ view.party0 run j → ones ≡ view.party1 run j → own ≡ view.own → next ≡ view.next
-    → start ≡ counter_of (count_of z) run (bits j)
-    → numbers ≡ listed z.rows (row_number zeros ones (width_of z.widths column) (pieces.first column) (pieces.second column))
-    → sums numbers (parts_of own next start (length numbers)) ≡ bits_words z run view pieces j
-bits_are_words z run view pieces j numbers zeros ones own next start column e0 e1 e2 e3 e4 e5 e =
-    with_zeros z.rows _ own next start numbers e ∙ rw (e1, e2, e3, e4, e5, e0)
+-- the numbers of a scan with a predicate's tables
+pub numbers_are : (z : Sizes) (run : ℕ) (view : View) (pieces : Pieces) (j : ℕ) (zeros ones : List ℕ) (column : ℕ)
+    → column ≡ column_of z j → zeros ≡ view.party0 run j → ones ≡ view.party1 run j
+    → listed z.rows (row_number zeros ones (width_of z.widths column) (pieces.first column) (pieces.second column)) ≡ bit_numbers z run view pieces j
+numbers_are z run view pieces j zeros ones column e0 e1 e2 = rw (e1, e2, e0)
 
-pub product_is : (z : Sizes) (run : ℕ) (view view' : View) (j start : ℕ) (own next : Seed) (words a a' b b' c c' d d' : List ℕ) → words ≡ local_rows_of a a' b b' own next start
-    → a ≡ c → a' ≡ c' → b ≡ d → b' ≡ d' → own ≡ view.own → next ≡ view.next → view ≡ view' → start ≡ counter_of (count_of z) run (product j)
-    → words ≡ product_words z run view' j c c' d d'
-product_is z run view view' j start own next words a a' b b' c c' d d' e e0 e1 e2 e3 e4 e5 e6 e7 =
-    e ∙ rw (e0, e1, e2, e3, e4, e5, e6, e7)
+-- with their parts of zero they are the words
+pub bits_are_words : (z : Sizes) (run : ℕ) (view : View) (pieces : Pieces) (j : ℕ) (own next : Seed) (start : ℕ) (numbers words : List ℕ)
+    → words ≡ sums numbers (parts_of own next start (length numbers)) → numbers ≡ bit_numbers z run view pieces j
+    → own ≡ view.own → next ≡ view.next → start ≡ counter_of (count_of z) run (bits j) → words ≡ bits_words z run view pieces j
+bits_are_words z run view pieces j own next start numbers words made e e0 e1 e2 =
+    made ∙ with_zeros z.rows _ own next start numbers e ∙ rw (e0, e1, e2)
+
+-- the parts of a product
+pub locals_are : (chain held : Pairs) (server : ℕ) (words a a' b b' : List ℕ) → words ≡ locals_of a a' b b'
+    → a ≡ first_of chain server → a' ≡ second_of chain server → b ≡ first_of held server → b' ≡ second_of held server → words ≡ locals_at chain held server
+locals_are chain held server words a a' b b' e e0 e1 e2 e3 = e ∙ rw (e0, e1, e2, e3)
+
+-- with their parts of zero they are the words
+pub product_is : (z : Sizes) (run : ℕ) (view : View) (j : ℕ) (chain held : Pairs) (server : ℕ) (own next : Seed) (start : ℕ) (numbers words : List ℕ)
+    → words ≡ sums numbers (parts_of own next start (length numbers)) → numbers ≡ locals_at chain held server
+    → own ≡ view.own → next ≡ view.next → start ≡ counter_of (count_of z) run (product j)
+    → words ≡ product_words z run view j (first_of chain server) (second_of chain server) (first_of held server) (second_of held server)
+product_is z run view j chain held server own next start numbers words made e e0 e1 e2 =
+    made
+    ∙ ap (λ (l : List ℕ). sums l (parts_of own next start (length l))) e
+    ∙ rows_with_zero (first_of chain server) (second_of chain server) (first_of held server) (second_of held server) own next start _ (length-listed _ _)
+    ∙ rw (e0, e1, e2)
 
 -- a pair a row at each server
 pub held_long : (n : ℕ) (pairs : Pairs) (k : ℕ) → k < 3 → AreLong n pairs → length (first_of pairs k) ≡ n

@@ -6,11 +6,11 @@ use Rattle.scan_chunks.specs.declared.visit.Visit.{Visit}
 use Rattle.query_plan.specs.KeyMessages.{KeysRead, view_from}
 use Rattle.query_plan.specs.Views.{View}
 use Rattle.transcript.specs.Setup.{Sizes, column_of, count_of}
-use Rattle.transcript.specs.Formulas.{bits_words, opening_words}
+use Rattle.transcript.specs.Formulas.{opening_words}
 use Rattle.server_rounds.specs.declared.carry.Trio.{Trio}
 use Rattle.server_rounds.specs.Groups.{Pairs, AreLong, first_of, second_of}
 use Rattle.server_rounds.specs.Plans.{HasTables}
-use Rattle.server_rounds.specs.Rounds.{products_of}
+use Rattle.server_rounds.specs.Rounds.{bit_numbers, locals_at}
 use Rattle.server_rounds.specs.Shelves.{AreShelves, pieces_of}
 use Rattle.server_rounds.specs.Visits.{AreVisited, opened_columns}
 
@@ -21,26 +21,27 @@ pub record CanScan {S : Type 0} (held : S → Held) (z : Sizes) (keys : KeysRead
   pub tables : HasTables z keys
   pub rows : AreShelves z.widths z.rows (map held shelves)
 
--- the shelves before and after, and the words of the bits
-pub record GivesBits {S : Type 0} (held : S → Held) (visited : S → List Visit) (z : Sizes) (keys : KeysRead) (run j : ℕ)
+-- the shelves before and after, and the numbers of the bits
+pub record GivesNumbers {S : Type 0} (held : S → Held) (visited : S → List Visit) (z : Sizes) (keys : KeysRead) (run j : ℕ)
     (old new : List S) (result : Result (List ℕ) Memory) : Type 0 where
   pub same : map held new ≡ map held old
   pub long : IfOk result (λ w. length w ≡ z.rows)
-  pub words : IfOk result (λ w. w ≡ bits_words z run (view_from keys) (pieces_of (map held old)) j)
+  pub numbers : IfOk result (λ w. w ≡ bit_numbers z run (view_from keys) (pieces_of (map held old)) j)
   pub visits : AreVisited held visited (column_of z j ∷ []) old new result
 
--- a predicate of a run, and a pair a row of each factor
-pub record CanMultiply (z : Sizes) (run j : ℕ) (chain bits : Pairs) : Type 0 where
-  pub one_of_two : run < 2
-  pub there : j < count_of z
-  pub chain_long : AreLong z.rows chain
-  pub bits_long : AreLong z.rows bits
+-- how many pairs a server holds, where all hold equally many
+abbrev pub count_in : Pairs → ℕ
+count_in pairs = length pairs.zero.first
 
--- the words of a server's part of a product
-pub record GivesProduct (z : Sizes) (run : ℕ) (views : ℕ → View) (j : ℕ) (chain bits : Pairs) (server : ℕ)
-    (result : Result (List ℕ) Memory) : Type 0 where
-  pub long : IfOk result (λ w. length w ≡ z.rows)
-  pub words : IfOk result (λ w. w ≡ products_of z run views j chain bits server)
+-- equally many pairs of each factor
+pub record CanMultiply (chain bits : Pairs) : Type 0 where
+  pub chain_long : AreLong (count_in chain) chain
+  pub bits_long : AreLong (count_in chain) bits
+
+-- a server's parts of a product
+pub record GivesLocals (chain bits : Pairs) (server : ℕ) (result : Result (List ℕ) Memory) : Type 0 where
+  pub long : IfOk result (λ w. length w ≡ count_in chain)
+  pub numbers : IfOk result (λ w. w ≡ locals_at chain bits server)
 
 -- a run, a pair a row, and the server's shelves
 pub record CanOpen {S : Type 0} (held : S → Held) (z : Sizes) (run : ℕ) (chain : Pairs) (shelves : List S) : Type 0 where

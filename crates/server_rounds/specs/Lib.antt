@@ -7,3 +7,4 @@ pub mod Plans
 pub mod Runs
 pub mod Visits
 pub mod Noted
+pub mod Zeros

@@ -2,14 +2,14 @@
 ghost use denote.Param.Send.{IsSend, IsSync};
 ghost use Rattle.std.specs.Prelude.{◌≡◌, ◌<◌, ◌≤◌, map, length, IfOk};
 ghost use Rattle.transcript.specs.Setup.{count_of};
-ghost use Rattle.server_rounds.specs.AtOnce.{AreAll, CanMultiply, CanOpen, CanScan, GivesBits, GivesOpening, GivesProduct};
+ghost use Rattle.server_rounds.specs.AtOnce.{AreAll, CanMultiply, CanOpen, CanScan, GivesLocals, GivesNumbers, GivesOpening};
 ghost use Rattle.server_rounds.specs.Plans.{HasTables, HaveTables, views_of};
 ghost use Rattle.server_rounds.specs.Shelves.{AreShelves, pieces_of};
 
 use crate::carry::Trio;
 use crate::held::Held;
 use crate::keys::ThreeKeys;
-use crate::part::{bits_part, opening_part, product_part};
+use crate::part::{locals_part, numbers_part, opening_part};
 use crate::plan::Plan;
 use ring128::{Memory, Words};
 use scan_chunks::Shelf;
@@ -36,8 +36,8 @@ fn join_three<
     join_mut(rt, f, &mut others)
 }
 
-/// The words of the bits of predicate j at the servers: side by side where each has several shelves, else one after another.
-pub(crate) fn bits_at_once<R: Threads + Sync, S: Shelf + Send>(
+/// The numbers of the bits of predicate j at the servers: side by side where each has several shelves, else one after another.
+pub(crate) fn numbers_at_once<R: Threads + Sync, S: Shelf + Send>(
     rt: &R,
     alloc: Global,
     plan: &Plan,
@@ -54,64 +54,60 @@ pub(crate) fn bits_at_once<R: Threads + Sync, S: Shelf + Send>(
     requires zero { CanScan S.held plan.now keys.now.zero run j zero.old.items }
     requires one { CanScan S.held plan.now keys.now.one run j one.old.items }
     requires two { CanScan S.held plan.now keys.now.two run j two.old.items }
-    ensures zero { GivesBits S.held S.visited plan.now keys.now.zero run j zero.old.items zero.new.items result.0 }
-    ensures one { GivesBits S.held S.visited plan.now keys.now.one run j one.old.items one.new.items result.1.0 }
-    ensures two { GivesBits S.held S.visited plan.now keys.now.two run j two.old.items two.new.items result.1.1 }
+    ensures zero { GivesNumbers S.held S.visited plan.now keys.now.zero run j zero.old.items zero.new.items result.0 }
+    ensures one { GivesNumbers S.held S.visited plan.now keys.now.one run j one.old.items one.new.items result.1.0 }
+    ensures two { GivesNumbers S.held S.visited plan.now keys.now.two run j two.old.items two.new.items result.1.1 }
 {
     if zero.len() < 2 {
-        let first = bits_part(rt, alloc, plan, &keys.zero, run, j, zero);
-        let second = bits_part(rt, alloc, plan, &keys.one, run, j, one);
-        let third = bits_part(rt, alloc, plan, &keys.two, run, j, two);
+        let first = numbers_part(rt, alloc, plan, &keys.zero, run, j, zero);
+        let second = numbers_part(rt, alloc, plan, &keys.one, run, j, one);
+        let third = numbers_part(rt, alloc, plan, &keys.two, run, j, two);
         return (first, (second, third));
     }
     let (k0, k1, k2) = (&keys.zero, &keys.one, &keys.two);
     let mut first = || -> Result<Words, Memory>
         requires { IsSync R.row × IsSend S.row × CanScan S.held plan.now k0.now run j zero.now.items }
-        ensures { GivesBits S.held S.visited plan.entry.now k0.entry.now run j zero.entry.now.items zero.exit.now.items result }
-    { bits_part(rt, alloc, plan, k0, run, j, zero) };
+        ensures { GivesNumbers S.held S.visited plan.entry.now k0.entry.now run j zero.entry.now.items zero.exit.now.items result }
+    { numbers_part(rt, alloc, plan, k0, run, j, zero) };
     let mut second = || -> Result<Words, Memory>
         requires { IsSync R.row × IsSend S.row × CanScan S.held plan.now k1.now run j one.now.items }
-        ensures { GivesBits S.held S.visited plan.entry.now k1.entry.now run j one.entry.now.items one.exit.now.items result }
-    { bits_part(rt, alloc, plan, k1, run, j, one) };
+        ensures { GivesNumbers S.held S.visited plan.entry.now k1.entry.now run j one.entry.now.items one.exit.now.items result }
+    { numbers_part(rt, alloc, plan, k1, run, j, one) };
     let mut third = || -> Result<Words, Memory>
         requires { IsSync R.row × IsSend S.row × CanScan S.held plan.now k2.now run j two.now.items }
-        ensures { GivesBits S.held S.visited plan.entry.now k2.entry.now run j two.entry.now.items two.exit.now.items result }
-    { bits_part(rt, alloc, plan, k2, run, j, two) };
+        ensures { GivesNumbers S.held S.visited plan.entry.now k2.entry.now run j two.entry.now.items two.exit.now.items result }
+    { numbers_part(rt, alloc, plan, k2, run, j, two) };
     join_three(rt, &mut first, &mut second, &mut third)
 }
 
-/// The words of the servers in product j, side by side where this is wanted, else one after another.
-pub(crate) fn products_at_once<R: Threads + Sync>(
+/// The servers' parts of the product of a chain and bits, side by side where this is wanted, else one after another.
+pub(crate) fn locals_at_once<R: Threads + Sync>(
     rt: &R,
     alloc: Global,
-    plan: &Plan,
-    keys: &ThreeKeys,
     chain: &Held,
     bits: &Held,
     side_by_side: bool,
-    run: u8,
-    j: u8,
 ) -> (
     Result<Words, Memory>,
     (Result<Words, Memory>, Result<Words, Memory>),
 )
-    requires { CanMultiply plan.now run j chain.now bits.now }
-    ensures zero { GivesProduct plan.now run (views_of keys.now) j chain.now bits.now 0 result.0 }
-    ensures one { GivesProduct plan.now run (views_of keys.now) j chain.now bits.now 1 result.1.0 }
-    ensures two { GivesProduct plan.now run (views_of keys.now) j chain.now bits.now 2 result.1.1 }
+    requires { CanMultiply chain.now bits.now }
+    ensures zero { GivesLocals chain.now bits.now 0 result.0 }
+    ensures one { GivesLocals chain.now bits.now 1 result.1.0 }
+    ensures two { GivesLocals chain.now bits.now 2 result.1.1 }
 {
     let mut first = || -> Result<Words, Memory>
-        requires { CanMultiply plan.now run j chain.now bits.now }
-        ensures { GivesProduct plan.entry.now run (views_of keys.entry.now) j chain.entry.now bits.entry.now 0 result }
-    { product_part(alloc, plan, keys, chain, bits, 0, run, j) };
+        requires { CanMultiply chain.now bits.now }
+        ensures { GivesLocals chain.entry.now bits.entry.now 0 result }
+    { locals_part(alloc, chain, bits, 0) };
     let mut second = || -> Result<Words, Memory>
-        requires { CanMultiply plan.now run j chain.now bits.now }
-        ensures { GivesProduct plan.entry.now run (views_of keys.entry.now) j chain.entry.now bits.entry.now 1 result }
-    { product_part(alloc, plan, keys, chain, bits, 1, run, j) };
+        requires { CanMultiply chain.now bits.now }
+        ensures { GivesLocals chain.entry.now bits.entry.now 1 result }
+    { locals_part(alloc, chain, bits, 1) };
     let mut third = || -> Result<Words, Memory>
-        requires { CanMultiply plan.now run j chain.now bits.now }
-        ensures { GivesProduct plan.entry.now run (views_of keys.entry.now) j chain.entry.now bits.entry.now 2 result }
-    { product_part(alloc, plan, keys, chain, bits, 2, run, j) };
+        requires { CanMultiply chain.now bits.now }
+        ensures { GivesLocals chain.entry.now bits.entry.now 2 result }
+    { locals_part(alloc, chain, bits, 2) };
     if side_by_side {
         join_three(rt, &mut first, &mut second, &mut third)
     } else {

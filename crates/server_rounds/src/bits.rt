@@ -29,8 +29,8 @@ pub struct Bits {
     pub(crate) j: u8,
     pub(crate) chain: Option<Held>,
     pub(crate) bits: Held,
-    // Whether each server has several shelves: their parts are then made side by side.
-    pub(crate) side_by_side: bool,
+    // How many shelves each server has: as many stretches of rows are worked on at once.
+    pub(crate) parts: usize,
     ghost one_of_two: { run < 2 },
     ghost there: { j < count_of plan },
     ghost chain_long: { (pairs : Pairs) → chain ≡ Some pairs → AreLong plan.rows pairs },
@@ -64,7 +64,7 @@ impl Bits {
             j,
             chain,
             bits,
-            side_by_side,
+            parts,
         } = self;
         match chain {
             None => Ok(Product {
@@ -81,7 +81,7 @@ impl Bits {
                     &ready.keys,
                     &earlier,
                     &bits,
-                    side_by_side,
+                    parts,
                     wire,
                     trace,
                     run,

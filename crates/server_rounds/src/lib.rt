@@ -37,6 +37,7 @@ mod shelves;
 mod sums;
 mod values;
 mod way;
+mod zeros;
 
 pub use bits::Bits;
 pub use carry::{Trio, carry_three};

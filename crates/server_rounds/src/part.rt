@@ -3,10 +3,11 @@ ghost use Rattle.std.specs.Prelude.{◌≡◌, ◌<◌, ◌≤◌, ◌+◌, ◌^
 ghost use Rattle.ring128.specs.Ring.{sums, total_of};
 ghost use Rattle.zero_share.specs.Zero.{parts_of};
 ghost use Rattle.transcript.specs.Setup.{column_of, count_of};
-ghost use Rattle.transcript.specs.Formulas.{bits_words, opening_share};
+ghost use Rattle.transcript.specs.Formulas.{opening_share};
 ghost use Rattle.query_plan.specs.KeyMessages.{view_from};
-ghost use Rattle.server_rounds.specs.AtOnce.{CanMultiply, CanOpen, GivesOpening, GivesProduct};
+ghost use Rattle.server_rounds.specs.AtOnce.{CanMultiply, CanOpen, GivesLocals, GivesOpening};
 ghost use Rattle.server_rounds.specs.Plans.{HasTables, views_of};
+ghost use Rattle.server_rounds.specs.Rounds.{bit_numbers};
 ghost use Rattle.server_rounds.specs.Shelves.{AreShelves, pieces_of};
 ghost use Rattle.server_rounds.specs.Visits.{AreVisited, opened_columns};
 
@@ -18,7 +19,7 @@ use query_plan::ServerKeys;
 use replicated_share::PairList;
 use ring128::{Memory, Party, Words, add};
 use scan_chunks::{Shelf, Tables};
-use share_product::local_rows;
+use share_product::locals;
 use std::alloc::Global;
 use std::thread::Threads;
 use table_schema::Aggregate;
@@ -43,8 +44,8 @@ pub(crate) fn seeds_of(keys: &ServerKeys) -> ZeroSeeds
     ZeroSeeds { own, next }
 }
 
-/// A server's words of the bits of predicate j.
-pub(crate) fn bits_part<R: Threads + Sync, S: Shelf + Send>(
+/// A server's numbers of the bits of predicate j.
+pub(crate) fn numbers_part<R: Threads + Sync, S: Shelf + Send>(
     rt: &R,
     alloc: Global,
     plan: &Plan,
@@ -59,7 +60,7 @@ pub(crate) fn bits_part<R: Threads + Sync, S: Shelf + Send>(
     requires shelves { AreShelves plan.now.widths plan.now.rows (map S.held shelves.old.items) }
     ensures held { map S.held shelves.new.items ≡ map S.held shelves.old.items }
     ensures long { IfOk result (λ w. length w ≡ plan.now.rows) }
-    ensures words { IfOk result (λ w. w ≡ bits_words plan.now run (view_from keys.now) (pieces_of (map S.held shelves.old.items)) j) }
+    ensures numbers { IfOk result (λ w. w ≡ bit_numbers plan.now run (view_from keys.now) (pieces_of (map S.held shelves.old.items)) j) }
     ensures visits { AreVisited S.held S.visited (column_of plan.now j ∷ []) shelves.old.items shelves.new.items result }
 {
     let column = plan.column(j);
@@ -67,32 +68,22 @@ pub(crate) fn bits_part<R: Threads + Sync, S: Shelf + Send>(
     let one = keys.table(alloc, run, j, Party::One)?;
     let tables = Tables { zero, one };
     let numbers = scan_rows(rt, alloc, plan, shelves, column, &tables)?;
-    let start = plan.bits_counter(run, j);
-    plan.rows();
-    Ok(with_zeros(numbers, &seeds_of(keys), start))
+    Ok(numbers)
 }
 
-/// The words of a server in product j.
-pub(crate) fn product_part(
+/// A server's parts of the product of a chain and bits.
+pub(crate) fn locals_part(
     alloc: Global,
-    plan: &Plan,
-    keys: &ThreeKeys,
     chain: &Held,
     bits: &Held,
     server: u8,
-    run: u8,
-    j: u8,
 ) -> Result<Words, Memory>
     requires server { server < 3 }
-    requires factors { CanMultiply plan.now run j chain.now bits.now }
-    ensures { GivesProduct plan.now run (views_of keys.now) j chain.now bits.now server result }
+    requires factors { CanMultiply chain.now bits.now }
+    ensures { GivesLocals chain.now bits.now server result }
 {
-    let start = plan.product_counter(run, j);
-    plan.rows();
-    let zeros = seeds_of(keys.of_server(server));
-    let (chain, bits) = (chain.of_server(server), bits.of_server(server));
-    let words = local_rows(alloc, chain, bits, &zeros, start)?;
-    Ok(words)
+    let numbers = locals(alloc, chain.of_server(server), bits.of_server(server))?;
+    Ok(numbers)
 }
 
 // The sum of the numbers.

@@ -95,7 +95,7 @@ impl Product {
             j: next,
             chain: Some(chain),
             bits,
-            side_by_side: shelves.zero.len() > 1,
+            parts: shelves.zero.len(),
         })
     }
 

@@ -182,7 +182,7 @@ impl Ready {
             j: 0,
             chain: None,
             bits,
-            side_by_side: shelves.zero.len() > 1,
+            parts: shelves.zero.len(),
         })
     }
 }

@@ -14,7 +14,7 @@ ghost use Rattle.visit_trace.specs.Seen.{GrewBy};
 ghost use Rattle.visit_trace.specs.Growing.{seen_then};
 ghost use Rattle.visit_trace.specs.Expected.{bits_part, opening_part, product_part};
 
-use crate::at_once::{all_three, bits_at_once, openings_at_once, products_at_once};
+use crate::at_once::{all_three, locals_at_once, numbers_at_once, openings_at_once};
 use crate::carry::{Trio, carry_three};
 use crate::held::{Held, reshare};
 use crate::keys::ThreeKeys;
@@ -22,6 +22,7 @@ use crate::noted::{note_last, note_values};
 use crate::plan::Plan;
 use crate::servers::Servers;
 use crate::way::Way;
+use crate::zeros::with_three_zeros;
 use ring128::{Memory, add};
 use scan_chunks::Shelf;
 use std::alloc::Global;
@@ -59,7 +60,7 @@ pub(crate) fn bits_round<R: Threads + Sync, S: Shelf + Send, W: Wire>(
         × IfOk result (λ held. AreReshared held ms) }
     ensures trace { GrewBy trace.old trace.new (bits_part plan.now (column_of plan.now j)) result }
 {
-    let (zero, others) = bits_at_once(
+    let (zero, others) = numbers_at_once(
         rt,
         alloc,
         plan,
@@ -70,7 +71,10 @@ pub(crate) fn bits_round<R: Threads + Sync, S: Shelf + Send, W: Wire>(
         &mut shelves.one,
         &mut shelves.two,
     );
-    let words = all_three(zero, others)?;
+    let numbers = all_three(zero, others)?;
+    plan.rows();
+    let start = plan.bits_counter(run, j);
+    let words = with_three_zeros(rt, keys, start, shelves.zero.len(), numbers);
     let held = reshare_noted(alloc, shelves, wire, trace, words)?;
     Ok(held)
 }
@@ -99,7 +103,8 @@ fn reshare_noted<S: Shelf, W: Wire>(
     reshare(alloc, wire, trace, words)
 }
 
-/// The product of the chain with the bits of predicate j, and the pairs that the servers then hold of it.
+/// The product of the chain with the bits of predicate j, made in `parts` stretches of rows at once, and the pairs that the servers
+/// then hold of it.
 pub(crate) fn product_round<R: Threads + Sync, W: Wire>(
     rt: &R,
     alloc: Global,
@@ -107,7 +112,7 @@ pub(crate) fn product_round<R: Threads + Sync, W: Wire>(
     keys: &ThreeKeys,
     chain: &Held,
     bits: &Held,
-    side_by_side: bool,
+    parts: usize,
     wire: &mut W,
     trace: &mut Trace,
     run: u8,
@@ -123,8 +128,11 @@ pub(crate) fn product_round<R: Threads + Sync, W: Wire>(
         × IfOk result (λ held. AreReshared held ms) }
     ensures trace { GrewBy trace.old trace.new (product_part plan.now) result }
 {
-    let (zero, others) = products_at_once(rt, alloc, plan, keys, chain, bits, side_by_side, run, j);
-    let words = all_three(zero, others)?;
+    let (zero, others) = locals_at_once(rt, alloc, chain, bits, parts > 1);
+    let numbers = all_three(zero, others)?;
+    plan.rows();
+    let start = plan.product_counter(run, j);
+    let words = with_three_zeros(rt, keys, start, parts, numbers);
     let held = reshare(alloc, wire, trace, words)?;
     Ok(held)
 }

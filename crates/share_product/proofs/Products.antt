@@ -53,7 +53,7 @@ reshare_shares part n three =
     }
 
 -- the parts, then the parts of zero
-rows_with_zero : (a a' b b' : List ℕ) (own next : Seed) (start n : ℕ) → n ≡ length a
+pub rows_with_zero : (a a' b b' : List ℕ) (own next : Seed) (start n : ℕ) → n ≡ length a
     → sums (locals_of a a' b b') (parts_of own next start n) ≡ local_rows_of a a' b b' own next start
 rows_with_zero a a' b b' own next start n e = rw e (sums-listed (length a) _ _)
 

@@ -15,4 +15,4 @@
 pub mod laws;
 mod product;
 
-pub use product::{accept_reshare, inner, inner_lent, local, local_rows};
+pub use product::{accept_reshare, inner, inner_lent, local, local_rows, locals};

@@ -29,15 +29,16 @@ pub fn local_rows(
     ensures { IfOk result (λ w. w ≡
         local_rows_of a.now.first a.now.second b.now.first b.now.second zero.now.own zero.now.next start) }
 {
-    let mut rows = locals(alloc, a, b)?;
+    let mut rows = locals(alloc, a, b)?.into_vec();
     zero.add_parts(start, &mut rows);
     Ok(Words::from_vec(rows))
 }
 
-// The parts alone.
-fn locals(alloc: Global, a: &PairList, b: &PairList) -> Result<Vec<u128>, Memory>
+/// A server's parts of the products of two lists, place by place, without parts of zero: whoever sends them on adds those first. The
+/// result is as long as the two lists. The only error is out of memory.
+pub fn locals(alloc: Global, a: &PairList, b: &PairList) -> Result<Words, Memory>
     requires { length a.now.first ≡ length b.now.first }
-    ensures { IfOk result (λ v. v.items ≡ locals_of a.now.first a.now.second b.now.first b.now.second) }
+    ensures { IfOk result (λ w. w ≡ locals_of a.now.first a.now.second b.now.first b.now.second) }
 {
     let (a_first, a_second) = (a.first.as_slice(), a.second.as_slice());
     let (b_first, b_second) = (b.first.as_slice(), b.second.as_slice());
@@ -53,7 +54,7 @@ fn locals(alloc: Global, a: &PairList, b: &PairList) -> Result<Vec<u128>, Memory
         };
         rows.push_reserved(local(left, right));
     }
-    Ok(rows)
+    Ok(Words::from_vec(rows))
 }
 
 /// A server's part of the dot product of two lists: the sum of its parts of the products.

@@ -13,5 +13,7 @@
 
 pub mod laws;
 mod seeds;
+mod three;
 
 pub use seeds::ZeroSeeds;
+pub use three::add_parts_of_three;

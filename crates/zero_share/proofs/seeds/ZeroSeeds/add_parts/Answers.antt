@@ -1,19 +1,22 @@
-use Rattle.std.proofs.Common.{◌≡◌, ℕ, ◌<◌, ◌+◌, length, get_or, sym, ap, ◌∙◌, arith}
-use Rattle.std.proofs.lemmas.List.{ext_get_or}
-use Rattle.list_facts.specs.Listed.{listed}
-use Rattle.list_facts.proofs.Listed.{length-listed, get_or-listed}
+use Rattle.std.proofs.Common.{◌≡◌, ◌+◌, ◌∙◌, get_or, ap, arith}
+use Rattle.prg_chacha.specs.Prg.{PadsAt}
 use Rattle.ring128.specs.Ring.{plus}
-use Rattle.ring128.proofs.Laws.{length-sums, get_or-sums}
 use Rattle.zero_share.specs.Zero.{part_of}
+use Rattle.zero_share.proofs.Adding.{added_all, added_more, part_is}
 use Rattle.zero_share.proofs.seeds.ZeroSeeds.add_parts.Goals as goal
 
+pub loop-word-preserved : goal.loop-word-preserved
+loop-word-preserved c =
+    let l = c.loop-word.invariant in
+    let part : c.sub.result ≡ part_of c.args.self.now.own c.args.self.now.next (c.args.start + c.loop-word.word-index) =
+    part_is _ _ _ _ _ _ _ _ _ _ c.sub.ensures c.next-mine.ensures.value c.next-theirs.ensures.value l.own l.next l.own_next l.next_next in
+    record {
+      own = ap (λ (s : PadsAt). s.seed) c.next-mine.ensures.after ∙ l.own;
+      own_next = omega (arith, ap (λ (s : PadsAt). s.next) c.next-mine.ensures.after, l.own_next);
+      next = ap (λ (s : PadsAt). s.seed) c.next-theirs.ensures.after ∙ l.next;
+      next_next = omega (arith, ap (λ (s : PadsAt). s.next) c.next-theirs.ensures.after, l.next_next);
+      words = added_more _ _ _ _ _ _ _ (omega arith) l.words (c.add.ensures ∙ ap (plus (get_or c.loop-word.to c.loop-word.word-index 0)) part);
+    }
+
 pub returns : goal.returns
-returns c =
-    let n = length c.args.to.now in
-    let f = λ (i : ℕ). part_of c.args.self.now.own c.args.self.now.next (c.args.start + i) in
-    let long : n ≡ length (listed n f) = sym (length-listed n f) in
-    ext_get_or 0 _ _ (omega (arith, length-sums c.args.to.now (listed n f) long))
-    (λ k h. let b : k < c.loop-word.word-index = omega arith in
-    let d : k < n = omega arith in
-    c.loop-word.invariant.added k b
-    ∙ sym (get_or-sums c.args.to.now (listed n f) k long d ∙ ap (λ (v : ℕ). plus (get_or c.args.to.now k 0) v) (get_or-listed n k f 0 d)))
+returns c = added_all _ _ _ _ _ _ (omega arith) c.loop-word.invariant.words

@@ -1,6 +1,5 @@
-use Rattle.std.proofs.Common.{◌≡◌, ℕ, ◌+◌, ◌<◌, ◌≤◌, get_or}
-use Rattle.ring128.specs.Ring.{plus}
-use Rattle.zero_share.specs.Zero.{part_of}
+use Rattle.std.proofs.Common.{◌≡◌, ◌+◌}
+use Rattle.zero_share.proofs.Adding.{AreAdded}
 use Rattle.zero_share.proofs.seeds.ZeroSeeds.add_parts.Given as goal
 
 abbrev pub invariant-loop-word : goal.invariant-loop-word
@@ -9,6 +8,5 @@ invariant-loop-word l = record {
   own_next : l.own.next ≡ l.start + l.word-index;
   next : l.next.seed ≡ l.self.next;
   next_next : l.next.next ≡ l.start + l.word-index;
-  added : (k : ℕ) → k < l.word-index → get_or l.to k 0 ≡ plus (get_or l.fn.to k 0) (part_of l.self.own l.self.next (l.start + k));
-  left : (k : ℕ) → l.word-index ≤ k → get_or l.to k 0 ≡ get_or l.fn.to k 0;
+  words : AreAdded l.self.own l.self.next l.start l.word-index l.fn.to l.to;
 }

@@ -4,9 +4,9 @@ use Rattle.onehot_column.specs.Code.{width_of}
 use Rattle.query_plan.specs.KeyMessages.{view_from}
 use Rattle.transcript.specs.Setup.{column_of}
 use Rattle.server_rounds.specs.Shelves.{pieces_of}
-use Rattle.server_rounds.proofs.Parts.{bits_are_words}
+use Rattle.server_rounds.proofs.Parts.{numbers_are}
 use Rattle.server_rounds.proofs.Visiting.{none_begun, visited_stopped}
-use Rattle.server_rounds.proofs.part.bits_part.Goals as goal
+use Rattle.server_rounds.proofs.part.numbers_part.Goals as goal
 
 pub table-requires-clause-predicate : goal.table-requires-clause-predicate
 table-requires-clause-predicate g c = omega (arith, c.requires.keys.run0)
@@ -24,25 +24,14 @@ scan_rows-requires-clause-one g c κs within =
     ap length c.in_ok-one.ensures ∙ c.requires.keys.party1 c.args.run c.args.j c.requires.j
     ∙ ap (λ (n : ℕ). width_of c.args.plan.now.widths n) (sym c.column-column.ensures.value)
 
-pub with_zeros-requires : goal.with_zeros-requires
-with_zeros-requires g c =
-    let long = ap length c.in_ok-numbers.ensures.numbers ∙ length-listed _ _ in
-    omega (arith, long, c.bits_counter-start.ensures.small, c.rows.ensures.few, c.rows.ensures.value)
-
 pub returns-clause-long : goal.returns-clause-long
-returns-clause-long g c =
-    ap length (c.with_zeros.ensures
-    ∙ bits_are_words c.args.plan.now c.args.run (view_from c.args.keys.now) (pieces_of (map g.S.Shelf.held c.args.shelves.now.items)) c.args.j _ _ _ _ _ _ _
-    c.column-column.ensures.value c.in_ok-zero.ensures c.in_ok-one.ensures c.seeds_of.ensures.own c.seeds_of.ensures.next
-    c.bits_counter-start.ensures.value c.in_ok-numbers.ensures.numbers)
-    ∙ length-listed _ _
+returns-clause-long g c = ap length c.in_ok-numbers.ensures.numbers ∙ length-listed _ _
 
-pub returns-clause-words : goal.returns-clause-words
-returns-clause-words g c =
-    c.with_zeros.ensures
-    ∙ bits_are_words c.args.plan.now c.args.run (view_from c.args.keys.now) (pieces_of (map g.S.Shelf.held c.args.shelves.now.items)) c.args.j _ _ _ _ _ _ _
-    c.column-column.ensures.value c.in_ok-zero.ensures c.in_ok-one.ensures c.seeds_of.ensures.own c.seeds_of.ensures.next
-    c.bits_counter-start.ensures.value c.in_ok-numbers.ensures.numbers
+pub returns-clause-numbers : goal.returns-clause-numbers
+returns-clause-numbers g c =
+    c.in_ok-numbers.ensures.numbers
+    ∙ numbers_are c.args.plan.now c.args.run (view_from c.args.keys.now) (pieces_of (map g.S.Shelf.held c.args.shelves.now.items)) c.args.j _ _ _
+    c.column-column.ensures.value c.in_ok-zero.ensures c.in_ok-one.ensures
 
 pub returns-in_err-zero-clause-visits : goal.returns-in_err-zero-clause-visits
 returns-in_err-zero-clause-visits g c =
