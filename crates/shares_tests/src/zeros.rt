@@ -52,3 +52,24 @@ fn words_gain_their_parts(rt: HostRuntime) {
         ]
     );
 }
+
+// Three servers whose seeds go round, and then a last one that received another seed than the first one's own.
+#[test]
+fn three_servers_gain_their_parts(rt: HostRuntime) {
+    let s = ZeroSeeds {
+        own: ZEROS,
+        next: ONES,
+    };
+    let t = ZeroSeeds {
+        own: ONES,
+        next: ZEROS,
+    };
+    for (next, last) in [(ZEROS, 7), (ONES, AT_LAST.wrapping_add(7))] {
+        let u = ZeroSeeds { own: ZEROS, next };
+        let (mut zero, mut one, mut two) = ([5], [6], [7]);
+        add_parts_of_three(&s, &t, &u, LAST, &mut zero, &mut one, &mut two);
+        assert_eq!(rt; zero, [AT_LAST.wrapping_add(5)]);
+        assert_eq!(rt; one, [AT_LAST.wrapping_neg().wrapping_add(6)]);
+        assert_eq!(rt; two, [last]);
+    }
+}
