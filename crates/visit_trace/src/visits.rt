@@ -1,5 +1,5 @@
 //! The visits of a trace, one after another.
-ghost use Rattle.std.specs.Prelude.{◌≡◌, ◌↔◌, [], IsTrue};
+ghost use Rattle.std.specs.Prelude.{◌≡◌};
 ghost use Rattle.std.specs.Iterator.{YieldsFirst, item_count};
 ghost use Rattle.visit_trace.specs.Runs.{visits_of};
 
