@@ -107,7 +107,7 @@ fn check_trace<R: Abort>(rt: &R, trace: &Trace, said: Option<Reply>) {
         _ => (0, 0),
     };
     for server in 0..3u8 {
-        assert_eq!(rt; trace.visits(server).len(), visits);
+        assert_eq!(rt; trace.visits(server).take(visits + 1).count(), visits);
         assert_eq!(rt; trace.lengths(server).len(), lengths);
     }
 }

@@ -186,10 +186,11 @@ fn tell<R: Abort + Threads + Sync>(
         rt, alloc, keys, rows, width, cells, values, &mut wire, &mut trace,
     )?;
     let answers = check_groups(alloc, &totals, keys.key())?;
+    let visits: Vec<Visit> = trace.visits(1).collect(alloc)?;
     Ok(Told {
         answers,
         messages: wire.messages().len(),
-        visits: trace.visits(1).len(),
+        visits: visits.len(),
     })
 }
 
@@ -275,7 +276,8 @@ fn a_server_sees_sizes(rt: HostRuntime) -> Result<(), Memory> {
     };
     let visits: &[Visit] = &[host, value, host, host, value, host];
     for server in 0..3 {
-        assert!(rt; trace.visits(server) == visits);
+        let seen: Vec<Visit> = trace.visits(server).collect(alloc)?;
+        assert!(rt; seen.as_slice() == visits);
         assert!(rt; trace.lengths(server) == lengths);
     }
     Ok(())

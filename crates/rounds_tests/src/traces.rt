@@ -24,10 +24,11 @@ const SIZES: Sizes = Sizes {
 
 #[test]
 fn a_count_visits_its_column_twice(rt: HostRuntime) -> Result<(), Memory> {
-    let trace = expected(rt.alloc(), &SIZES)?;
+    let alloc = rt.alloc();
+    let trace = expected(alloc, &SIZES)?;
     let lengths: &[u64] = &[40, 130, 130, 1, 130, 130, 1];
     for server in 0..3 {
-        let visits = trace.visits(server);
+        let visits: Vec<Visit> = trace.visits(server).collect(alloc)?;
         assert_eq!(rt; visits.len(), 6);
         assert_eq!(rt;
             visits[4],
@@ -38,6 +39,6 @@ fn a_count_visits_its_column_twice(rt: HostRuntime) -> Result<(), Memory> {
         );
         assert!(rt; trace.lengths(server) == lengths);
     }
-    assert_eq!(rt; trace.visits(3).len(), 0);
+    assert!(rt; trace.visits(3).next().is_none());
     Ok(())
 }

@@ -697,7 +697,7 @@ fn seen_alike(rt: HostRuntime) -> Result<(), Fail> {
     }
     assert_eq!(&rt; traces.len(), 2);
     assert!(&rt; same(&traces[0], &traces[1]));
-    assert_eq!(&rt; traces[0].visits(2).len(), 8);
+    assert_eq!(&rt; traces[0].visits(2).take(9).count(), 8);
     assert_eq!(&rt; traces[0].lengths(2).len(), 7);
     Ok(())
 }

@@ -1,20 +1,17 @@
 -- The numbers of visits and words of a trace.
-use Rattle.std.proofs.Common.{◌≡◌, ◌∙◌, refl, sym, ap, subst, ℕ, zero, suc, ◌+◌, ◌-◌, ◌*◌, List, [], ◌∷◌, ◌++◌, length, map, arith, length-append}
+use Rattle.std.proofs.Common.{◌≡◌, ◌∙◌, refl, ap, ℕ, zero, suc, ◌+◌, ◌-◌, ◌*◌, List, [], ◌∷◌, ◌++◌, length, map, arith, length-append}
 use Rattle.std.proofs.Math.Nat.{mul-suc}
 use Rattle.std.specs.List.{range_with_len}
 use Rattle.list_facts.specs.Count.{total}
-use Rattle.list_facts.specs.Listed.{listed}
 use Rattle.list_facts.proofs.Listed.{length-listed}
-use Rattle.query_plan.specs.KeyMessages.{message_length}
 use Rattle.scan_chunks.specs.Pieces.{chunks_of}
 use Rattle.scan_chunks.specs.declared.visit.Visit.{Visit}
 use Rattle.table_schema.specs.declared.shapes.Aggregate.{Aggregate}
 use Rattle.table_schema.specs.declared.shapes.Aggregate.TheVariants.{Count, Sum}
-use Rattle.visit_trace.specs.Expected.{chunk_visits, product_lengths, query_lengths, run_lengths, trace_of, visits_over as visits_at}
-use Rattle.visit_trace.specs.Seen.{Seen, seen_by}
+use Rattle.visit_trace.specs.Expected.{chunk_visits, product_lengths, query_lengths, run_lengths, visits_over as visits_at}
 use Rattle.visit_trace.specs.Sizes.{column_of, count_of, opened_columns, predicate_columns, query_columns, run_columns}
 use Rattle.visit_trace.specs.declared.sizes.Sizes.{Sizes}
-use Rattle.visit_trace.specs.Counts.{CountsFollow, HasCounts, value_columns, visits_over, words_over}
+use Rattle.visit_trace.specs.Counts.{CountsFollow, value_columns, visits_over, words_over}
 
 abbrev sum : List ℕ → ℕ
 sum ns = total (λ (n : ℕ). n) ns

@@ -1,2 +1,4 @@
 pub mod Listing
 pub mod Counted
+pub mod Stretches
+pub mod Stopped

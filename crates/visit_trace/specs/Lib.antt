@@ -1,5 +1,6 @@
 pub mod Sizes
 pub mod Seen
+pub mod Runs
 pub mod Expected
 pub mod Counts
 pub mod Growing

@@ -3,11 +3,12 @@ ghost use Rattle.std.specs.Prelude.{◌≡◌, ◌≤◌, ◌++◌, IfOk, OnOk};
 ghost use Rattle.visit_trace.specs.Expected.{chunk_visits, product_lengths, query_lengths, run_lengths, trace_of, visits_over};
 ghost use Rattle.visit_trace.specs.Sizes.{AreLegal, count_of, predicate_columns, query_columns, run_columns};
 
+use crate::run::Run;
+use crate::runs::Runs;
 use crate::sizes::Sizes;
 use crate::trace::{Notes, Trace};
 use query_plan::message_length;
 use ring128::Memory;
-use scan_chunks::Visit;
 use std::alloc::Global;
 use table_schema::Aggregate;
 
@@ -28,7 +29,7 @@ pub fn expected(alloc: Global, sizes: &Sizes) -> Result<Trace, Memory>
 // What one server sees.
 fn query_notes(alloc: Global, sizes: &Sizes) -> Result<Notes, Memory>
     requires { AreLegal sizes.now }
-    ensures visits { IfOk result (λ n. n.visits.items ≡ visits_over sizes.now.rows (query_columns sizes.now)) }
+    ensures visits { IfOk result (λ n. n.visits ≡ visits_over sizes.now.rows (query_columns sizes.now)) }
     ensures lengths { IfOk result (λ n. n.lengths.items ≡ query_lengths sizes.now) }
 {
     let mut notes = Notes::new(alloc);
@@ -43,7 +44,7 @@ fn query_notes(alloc: Global, sizes: &Sizes) -> Result<Notes, Memory>
 // Adds what a server sees of a run.
 fn add_run(notes: &mut Notes, sizes: &Sizes) -> Result<(), Memory>
     requires { AreLegal sizes.now }
-    ensures visits { OnOk result (notes.new.visits.items ≡ notes.old.visits.items ++ visits_over sizes.now.rows (run_columns sizes.now)) }
+    ensures visits { OnOk result (notes.new.visits ≡ notes.old.visits ++ visits_over sizes.now.rows (run_columns sizes.now)) }
     ensures lengths { OnOk result (notes.new.lengths.items ≡ notes.old.lengths.items ++ run_lengths sizes.now) }
 {
     add_predicates(&mut notes.visits, sizes)?;
@@ -56,9 +57,9 @@ fn add_run(notes: &mut Notes, sizes: &Sizes) -> Result<(), Memory>
 }
 
 // Adds the visits of the bits of a run.
-fn add_predicates(visits: &mut Vec<Visit>, sizes: &Sizes) -> Result<(), Memory>
+fn add_predicates(visits: &mut Runs, sizes: &Sizes) -> Result<(), Memory>
     requires { AreLegal sizes.now }
-    ensures { OnOk result (visits.new.items ≡ visits.old.items ++ visits_over sizes.now.rows (predicate_columns sizes.now)) }
+    ensures { OnOk result (visits.new ≡ visits.old ++ visits_over sizes.now.rows (predicate_columns sizes.now)) }
 {
     for j in 0..sizes.shape.count as usize {
         add_column(visits, sizes.rows, sizes.shape.parts[j].column)?;
@@ -67,12 +68,17 @@ fn add_predicates(visits: &mut Vec<Visit>, sizes: &Sizes) -> Result<(), Memory>
 }
 
 // Adds the visits of a column.
-fn add_column(visits: &mut Vec<Visit>, rows: u64, column: u8) -> Result<(), Memory>
+fn add_column(visits: &mut Runs, rows: u64, column: u8) -> Result<(), Memory>
     requires { rows ≤ 65536 }
-    ensures { OnOk result (visits.new.items ≡ visits.old.items ++ chunk_visits rows column) }
+    ensures { OnOk result (visits.new ≡ visits.old ++ chunk_visits rows column) }
 {
-    for chunk in 0..rows.div_ceil(64) as u32 {
-        visits.push(Visit { column, chunk })?;
+    let chunks = rows.div_ceil(64) as u32;
+    if chunks > 0 {
+        visits.add(&[Run {
+            column,
+            first: 0,
+            last: chunks - 1,
+        }])?;
     }
     Ok(())
 }

@@ -14,9 +14,13 @@
 
 mod ahead;
 pub mod laws;
+mod run;
+mod runs;
 mod sizes;
 mod trace;
+mod visits;
 
 pub use ahead::expected;
 pub use sizes::Sizes;
 pub use trace::{Trace, same};
+pub use visits::Visits;

@@ -2,6 +2,8 @@
 ghost use Rattle.std.specs.Prelude.{◌≡◌, ◌↔◌, ◌<◌, ◌++◌, IsTrue, OnOk, OnErr, vec_len, vec_capacity};
 ghost use Rattle.visit_trace.specs.Seen.{AddsPrefix, Grew, GrewBy, alike, is_server, length_at, message_seen, nothing, only_at, seen_by};
 
+use crate::runs::Runs;
+use crate::visits::Visits;
 use ring128::Memory;
 use scan_chunks::Visit;
 use std::alloc::Global;
@@ -11,30 +13,30 @@ use wire_line::Peer;
 /// What one server sees.
 #[derive(Drop)]
 pub(crate) struct Notes {
-    pub(crate) visits: Vec<Visit>,
+    pub(crate) visits: Runs,
     pub(crate) lengths: Vec<u64>,
 }
 
 impl Notes {
     /// Nothing.
     pub(crate) fn new(alloc: Global) -> Notes
-        ensures visits { result.visits.items ≡ nothing.visits }
+        ensures visits { result.visits ≡ nothing.visits }
         ensures lengths { result.lengths.items ≡ nothing.lengths }
     {
         Notes {
-            visits: Vec::new(alloc),
+            visits: Runs::new(alloc),
             lengths: Vec::new(alloc),
         }
     }
 
     // Adds what other notes hold, the visits first.
     fn add(&mut self, other: &Notes) -> Result<(), Memory>
-        ensures visits { OnOk result (self.new.visits.items ≡ self.old.visits.items ++ other.now.visits.items) }
+        ensures visits { OnOk result (self.new.visits ≡ self.old.visits ++ other.now.visits) }
         ensures lengths { OnOk result (self.new.lengths.items ≡ self.old.lengths.items ++ other.now.lengths.items) }
-        ensures fewer { OnErr result (AddsPrefix self.old.visits.items self.new.visits.items other.now.visits.items) }
+        ensures fewer { OnErr result (AddsPrefix self.old.visits self.new.visits other.now.visits) }
         ensures shorter { OnErr result (AddsPrefix self.old.lengths.items self.new.lengths.items other.now.lengths.items) }
     {
-        self.visits.extend_from_slice(&other.visits)?;
+        self.visits.add(other.visits.as_slice())?;
         self.lengths.extend_from_slice(&other.lengths)?;
         Ok(())
     }
@@ -55,9 +57,9 @@ impl Model for Trace {
     ghost Value = { AllSeen };
 
     ghost view = { λ t. record {
-      zero = record { visits = t.zero.visits.items; lengths = t.zero.lengths.items };
-      one = record { visits = t.one.visits.items; lengths = t.one.lengths.items };
-      two = record { visits = t.two.visits.items; lengths = t.two.lengths.items };
+      zero = record { visits = t.zero.visits; lengths = t.zero.lengths.items };
+      one = record { visits = t.one.visits; lengths = t.one.lengths.items };
+      two = record { visits = t.two.visits; lengths = t.two.lengths.items };
     } };
 }
 
@@ -74,14 +76,14 @@ impl Trace {
     }
 
     /// The chunks that server 0, 1 or 2 visited, in order; none for another number.
-    pub fn visits(&self, server: u8) -> &[Visit]
-        ensures { result.now ≡ (seen_by self.now server).visits }
+    pub fn visits(&self, server: u8) -> Visits<'_>
+        ensures { result ≡ (seen_by self.now server).visits }
     {
         match server {
-            0 => self.zero.visits.as_slice(),
-            1 => self.one.visits.as_slice(),
-            2 => self.two.visits.as_slice(),
-            _ => &[],
+            0 => self.zero.visits.iter(),
+            1 => self.one.visits.iter(),
+            2 => self.two.visits.iter(),
+            _ => Visits::over(&[]),
         }
     }
 
@@ -104,9 +106,9 @@ impl Trace {
         ensures kept { OnErr result (self.new ≡ self.old) }
     {
         match server {
-            0 => self.zero.visits.extend_from_slice(visits)?,
-            1 => self.one.visits.extend_from_slice(visits)?,
-            2 => self.two.visits.extend_from_slice(visits)?,
+            0 => self.zero.visits.add_visits(visits)?,
+            1 => self.one.visits.add_visits(visits)?,
+            2 => self.two.visits.add_visits(visits)?,
             _ => {}
         }
         Ok(())
@@ -169,25 +171,33 @@ pub fn same(a: &Trace, b: &Trace) -> bool
 
 // Whether a server sees the same.
 fn same_notes(a: &Notes, b: &Notes) -> bool
-    ensures { IsTrue result ↔ ((a.now.visits.items ≡ b.now.visits.items) × (a.now.lengths.items ≡ b.now.lengths.items)) }
+    ensures { IsTrue result ↔ ((a.now.visits ≡ b.now.visits) × (a.now.lengths.items ≡ b.now.lengths.items)) }
 {
-    same_visits(a.visits.as_slice(), b.visits.as_slice())
+    same_visits(a.visits.iter(), b.visits.iter())
         && same_lengths(a.lengths.as_slice(), b.lengths.as_slice())
 }
 
-// Whether visits are the same.
-fn same_visits(a: &[Visit], b: &[Visit]) -> bool
-    ensures { IsTrue result ↔ (a.now ≡ b.now) }
+// Whether two visits are the same.
+fn same_visit(a: Visit, b: Visit) -> bool
+    ensures { IsTrue result ↔ (a ≡ b) }
 {
-    if a.len() != b.len() {
-        return false;
-    }
-    for i in 0..a.len() {
-        if a[i].column != b[i].column || a[i].chunk != b[i].chunk {
+    a.column == b.column && a.chunk == b.chunk
+}
+
+// Whether visits are the same, in order.
+fn same_visits(a: Visits<'_>, b: Visits<'_>) -> bool
+    ensures { IsTrue result ↔ (a ≡ b) }
+{
+    let mut theirs = b;
+    for visit in a {
+        let Some(other) = theirs.next() else {
+            return false;
+        };
+        if !same_visit(visit, other) {
             return false;
         }
     }
-    true
+    theirs.next().is_none()
 }
 
 // Whether lengths are the same.

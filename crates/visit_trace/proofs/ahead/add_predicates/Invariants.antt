@@ -5,4 +5,4 @@ use Rattle.visit_trace.specs.Expected.{visits_over}
 use Rattle.visit_trace.proofs.ahead.add_predicates.Given as goal
 
 abbrev pub invariant-loop-j : goal.invariant-loop-j
-invariant-loop-j l = l.visits.items ≡ l.fn.visits.items ++ visits_over l.sizes.rows (listed l.j (column_of l.sizes))
+invariant-loop-j l = l.visits ≡ l.fn.visits ++ visits_over l.sizes.rows (listed l.j (column_of l.sizes))

@@ -1,5 +1,9 @@
-use Rattle.std.proofs.Common.{◌≡◌, length, take}
+use Rattle.std.proofs.Common.{◌≡◌, ◌++◌}
 use Rattle.visit_trace.proofs.trace.same_visits.Given as goal
 
-abbrev pub invariant-loop-i : goal.invariant-loop-i
-invariant-loop-i l = take l.i l.a ≡ take l.i l.b
+abbrev pub invariant-loop-visit : goal.invariant-loop-visit
+invariant-loop-visit l =
+    (goal.iterator-loop-visit).can_next l.visit-iterator ×
+    (goal.iterator-loop-visit).is_finite l.visit-iterator ×
+    (l.fn.a ≡ l.yielded ++ l.visit-iterator) ×
+    (l.fn.b ≡ l.yielded ++ l.theirs)
