@@ -25,8 +25,8 @@ pub struct RowPieces {
     pub two: Piece,
 }
 
-/// The pieces of a row: its code, split by the seed, two shares at each server. The only error is want of
-/// memory.
+/// The pieces of a row: its code, split by the seed, two shares at each server. The only error is out
+/// of memory.
 pub fn pieces(alloc: Global, widths: &Widths, row: &Row, seed: &Seed) -> Result<RowPieces, Memory>
     requires { Holds widths.now row.now }
     ensures zero { IfOk result (λ p. IsPiece widths.now row.now seed.now 0 p.zero) }

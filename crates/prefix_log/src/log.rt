@@ -66,7 +66,7 @@ impl Journaled for ServerLog {
 
 impl ServerLog {
     /// A log without pieces. All memory that it will ever want is taken here, 32 bytes for each cell of its places among it;
-    /// it is written as pieces come. The only error is want of it.
+    /// it is written as pieces come. The only error is out of memory.
     pub fn new(
         alloc: Global,
         server: u8,
@@ -123,8 +123,8 @@ impl ServerLog {
     }
 
     /// A snapshot of the pieces at the places below the prefix, a row each, without visits yet. Its first chunk has the
-    /// number 0. It shares the whole chunks with the log and copies the rest, fewer than 64 rows. The only error is want of
-    /// memory; in every case the log stays.
+    /// number 0. It shares the whole chunks with the log and copies the rest, fewer than 64 rows. The only error is out
+    /// of memory; in every case the log stays.
     pub fn fix(&mut self, alloc: Global) -> Result<Snapshot, Memory>
         ensures stays { self.new ≡ self.old }
         ensures legal { IsLog self.old }

@@ -53,8 +53,8 @@ impl Plan {
         }
     }
 
-    /// What a server reads from the words that it received, which are as many as the client sent. The only error is want of
-    /// memory.
+    /// What a server reads from the words that it received, which are as many as the client sent. The only error is out
+    /// of memory.
     pub(crate) fn read_keys(&self, alloc: Global, words: &Words) -> Result<ServerKeys, Memory>
         requires { length words.now ≡ message_length self.now.shape self.now.widths.bits }
         ensures keys { IfOk result (λ k. k ≡ keys_read self.now.shape self.now.widths.bits words.now) }

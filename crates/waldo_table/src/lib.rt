@@ -3,7 +3,7 @@
 //! A row goes in by three steps. [`prepare`] splits it by its seed into three pieces; [`Table::draw`] gives it the next place
 //! of the one order; [`Table::place`] puts each piece at that place of a server. [`Table::append`] is draw and placings in one
 //! call. All memory is taken by [`Table::new`] and `prepare`: the signatures of `draw`, `place`, `append` and `look` have
-//! neither an allocator nor an answer for want of it, so no draw is ever lost.
+//! neither an allocator nor an answer for out of memory, so no draw is ever lost.
 //!
 //! A server's log is behind a lock, which each call holds only while it reads the log or adds one piece. Rows can be missing
 //! at a server for a while, since its pieces come in any order; its *prefix* is how many of the first places it has without
