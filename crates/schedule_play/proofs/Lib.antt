@@ -18,6 +18,7 @@ pub mod Readying
 pub mod RowNumbers
 pub mod Seeding
 pub mod SeenAlike
+pub mod SchedulesAlike
 pub mod Single
 pub mod Tracing
 pub mod Unasked

@@ -23,7 +23,7 @@ same_seen a b d p f g =
     ap (λ v. record { visits = v; lengths = b.lengths }) (f.visits ∙ sym g.visits)
     ∙ ap (λ (l : List ℕ). record { visits = d.visits; lengths = l }) (f.lengths ∙ sym g.lengths)
 
-same_all : (a b d p : AllSeen) → Grew a b p → Grew a d p → b ≡ d
+pub same_all : (a b d p : AllSeen) → Grew a b p → Grew a d p → b ≡ d
 same_all a b d p f g =
     ap (λ (s : Seen). record { zero = s; one = b.one; two = b.two }) (same_seen a.zero b.zero d.zero p.zero f.zero g.zero)
     ∙ ap (λ (s : Seen). record { zero = d.zero; one = s; two = b.two }) (same_seen a.one b.one d.one p.one f.one g.one)

@@ -22,7 +22,7 @@ use Rattle.schedule_play.specs.Plain.{ArePlain, plain_lines, plainly}
 use Rattle.schedule_play.specs.Stages.{Stage, first_stage, played}
 use Rattle.schedule_play.specs.declared.style.Style.TheVariants.{Queries}
 use Rattle.schedule_play.specs.Tasks.{IsSetting, Setting, Task, asking}
-use Rattle.schedule_play.specs.Traces.{asked_sizes, traces_of}
+use Rattle.schedule_play.specs.Traces.{asked_sizes, sizes_in, traces_of}
 
 -- the line of query i over n rows, by what the check says
 abbrev pub checked_line : ℕ → ℕ → Query → Result ℕ Altered → Line
@@ -90,3 +90,17 @@ abbrev pub SeenAlike : Type 0
 SeenAlike = (w : Widths) (n : ℕ) (queries others : List Query) → map shaped queries ≡ map shaped others
     → (before after last : AllSeen) → Grew before after (traces_of (asked_sizes w n queries))
     → Grew before last (traces_of (asked_sizes w n others)) → after ≡ last
+
+-- Tasks of the same steps, over as many rows of the same widths and with queries of the same shapes, have answers of the same sizes.
+abbrev pub SizesAlike : Type 0
+SizesAlike = (w : Widths) (a b : Task) → a.steps ≡ b.steps → length a.setting.rows ≡ length b.setting.rows
+    → map shaped a.setting.queries ≡ map shaped b.setting.queries
+    → sizes_in w a ≡ sizes_in w b
+
+-- So from the same trace on, each server has the same visits and the same lengths of messages in the end, whatever the bounds of the
+-- queries are, what the rows hold, and the seeds.
+abbrev pub SchedulesAlike : Type 0
+SchedulesAlike = (w : Widths) (a b : Task) → a.steps ≡ b.steps → length a.setting.rows ≡ length b.setting.rows
+    → map shaped a.setting.queries ≡ map shaped b.setting.queries
+    → (before after last : AllSeen) → Grew before after (traces_of (sizes_in w a)) → Grew before last (traces_of (sizes_in w b))
+    → after ≡ last

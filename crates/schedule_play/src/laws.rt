@@ -1,6 +1,6 @@
 //! What the definitions say together, as functions without effect.
 
-ghost use Rattle.schedule_play.specs.Laws.{AskedHonestly, AskedInOrder, AskedPlainly, PlainlyPlayed, SeenAlike};
+ghost use Rattle.schedule_play.specs.Laws.{AskedHonestly, AskedInOrder, AskedPlainly, PlainlyPlayed, SchedulesAlike, SeenAlike, SizesAlike};
 
 /// Where rows are appended one after another and then asked each query, no step is without a case, and each query has one
 /// line, over all rows, by what its answer opened.
@@ -32,4 +32,12 @@ pub fn plainly_played()
 /// messages: whatever the bounds of the queries are, what the rows hold, the seeds, and what was altered.
 pub fn seen_alike()
     ensures { SeenAlike }
+{}
+
+/// Schedules of the same steps, over as many rows of the same widths and with queries of equal shapes, have answers of the same sizes,
+/// and give each server the same visits and the same lengths of messages: whatever the bounds of the queries are, what the rows hold,
+/// the seeds, and what was altered.
+pub fn schedules_alike()
+    ensures sizes { SizesAlike }
+    ensures seen { SchedulesAlike }
 {}
