@@ -63,7 +63,11 @@ fn add_stretches<R: Threads + Sync>(
     ensures { AreZeroed keys.now start zero.old one.old two.old zero.new one.new two.new }
 {
     if parts < 2 || zero.len() < LEAST {
-        let (own, next, last) = (seeds_of(&keys.zero), seeds_of(&keys.one), seeds_of(&keys.two));
+        let (own, next, last) = (
+            seeds_of(&keys.zero),
+            seeds_of(&keys.one),
+            seeds_of(&keys.two),
+        );
         add_parts_of_three(&own, &next, &last, start, zero, one, two);
         return;
     }
@@ -73,7 +77,9 @@ fn add_stretches<R: Threads + Sync>(
     let (one, one_rest) = one.split_at_mut(cut);
     let (two, two_rest) = two.split_at_mut(cut);
     let parts = (near, parts - near);
-    add_both(rt, keys, start, parts, zero, one, two, zero_rest, one_rest, two_rest);
+    add_both(
+        rt, keys, start, parts, zero, one, two, zero_rest, one_rest, two_rest,
+    );
 }
 
 // A separate function from `add_stretches`, so that what the closures require is what this function is given.

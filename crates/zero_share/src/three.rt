@@ -27,7 +27,9 @@ pub fn add_parts_of_three(
     ensures two { at_two.new ≡ sums at_two.old (parts_of two.now.own two.now.next start (length at_two.old)) }
 {
     if zero.next == one.own && one.next == two.own && two.next == zero.own {
-        add_round(&zero.own, &one.own, &two.own, start, at_zero, at_one, at_two);
+        add_round(
+            &zero.own, &one.own, &two.own, start, at_zero, at_one, at_two,
+        );
     } else {
         zero.add_parts(start, at_zero);
         one.add_parts(start, at_one);
