@@ -16,8 +16,8 @@ use scan_chunks::Shelf;
 use std::alloc::Global;
 use std::thread::{Threads, join_mut};
 
-// Calls three closures, each in a thread of its own where one can be made.
-fn join_three<
+/// Calls three closures, each in a thread of its own where one can be made, and gives what each gave.
+pub fn join_three<
     R: Threads + Sync,
     F: FnMut() -> A + Send,
     G: FnMut() -> B + Send,
@@ -162,7 +162,7 @@ pub(crate) fn openings_at_once<R: Threads + Sync, S: Shelf + Send>(
 }
 
 /// The words of the three servers, where each had memory.
-pub(crate) fn all_three(
+pub fn all_three(
     zero: Result<Words, Memory>,
     others: (Result<Words, Memory>, Result<Words, Memory>),
 ) -> Result<Trio, Memory>

@@ -39,13 +39,16 @@ mod values;
 mod way;
 mod zeros;
 
+pub use at_once::{all_three, join_three};
 pub use bits::Bits;
 pub use carry::{Trio, carry_three};
 pub use held::{Held, reshare};
+pub use noted::note_last;
 pub use opened::{Opened, OpenedPair};
 pub use part::with_zeros;
 pub use product::Product;
 pub use ready::Ready;
+pub use rounds::reshare_noted;
 pub use run::{both_runs, run_products};
 pub use servers::Servers;
 pub use shelves::count_rows;

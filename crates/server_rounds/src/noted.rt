@@ -36,7 +36,7 @@ fn note_shelves<S: Shelf>(trace: &mut Trace, server: u8, shelves: &[S]) -> Resul
 }
 
 /// Notes at each server the visits that its shelves had last, one for each chunk.
-pub(crate) fn note_last<S: Shelf>(trace: &mut Trace, shelves: &Servers<S>) -> Result<(), Memory>
+pub fn note_last<S: Shelf>(trace: &mut Trace, shelves: &Servers<S>) -> Result<(), Memory>
     requires zero { HaveVisits S.held S.visited shelves.now.zero.items }
     requires one { HaveVisits S.held S.visited shelves.now.one.items }
     requires two { HaveVisits S.held S.visited shelves.now.two.items }

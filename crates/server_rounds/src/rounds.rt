@@ -79,8 +79,9 @@ pub(crate) fn bits_round<R: Threads + Sync, S: Shelf + Send, W: Wire>(
     Ok(held)
 }
 
-// Notes the visits that the servers' shelves had last, and then reshares the words.
-fn reshare_noted<S: Shelf, W: Wire>(
+/// Notes the visits that the servers' shelves had last, one for each chunk, and then reshares the words. The only error is out of
+/// memory; the first of these messages may then have been carried, and the first of these visits noted.
+pub fn reshare_noted<S: Shelf, W: Wire>(
     alloc: Global,
     shelves: &Servers<S>,
     wire: &mut W,
