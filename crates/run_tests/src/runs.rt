@@ -701,9 +701,7 @@ fn seen_alike(rt: HostRuntime) -> Result<(), Fail> {
             "ask 0 rows 65 sum 130\n",
         ),
     ];
-    let traces = traces_of(&rt, rt.alloc(), 65, cases)
-        .ok()
-        .ok_or("memory")?;
+    let traces = traces_of(&rt, rt.alloc(), 65, cases).ok().ok_or("memory")?;
     assert_eq!(&rt; traces.len(), 2);
     assert!(&rt; same(&traces[0], &traces[1]));
     assert_eq!(&rt; traces[0].visits(2).take(9).count(), 8);
@@ -727,9 +725,7 @@ fn schedules_seen_alike(rt: HostRuntime) -> Result<(), Fail> {
             "draw 0 place 0\nask 1.0 rows 1 sum 0\ndraw 0 place 1\nask 1.1 rows 2 sum 0\n",
         ),
     ];
-    let traces = traces_of(&rt, rt.alloc(), 2, cases)
-        .ok()
-        .ok_or("memory")?;
+    let traces = traces_of(&rt, rt.alloc(), 2, cases).ok().ok_or("memory")?;
     assert_eq!(&rt; traces.len(), 2);
     assert!(&rt; same(&traces[0], &traces[1]));
     assert_eq!(&rt; traces[0].visits(2).take(9).count(), 8);

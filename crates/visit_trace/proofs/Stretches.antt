@@ -38,7 +38,7 @@ joined run next d g =
     let long : next.last - run.first + 1 ≡ m + n = omega (arith, g, run.rising, next.rising) in
     let at : next.first ≡ run.first + m = omega (arith, g, run.rising) in
     let behind : stretch run.column (run.first + m) n ≡ run_visits next
-        = ap (λ (x : ℕ). stretch run.column x n) (sym at) ∙ ap (λ (x : ℕ). stretch x next.first n) (sym d) in
+    = ap (λ (x : ℕ). stretch run.column x n) (sym at) ∙ ap (λ (x : ℕ). stretch x next.first n) (sym d) in
     ap (λ (k : ℕ). stretch run.column run.first k) long ∙ sym (stretch_then run.column run.first m n)
     ∙ ap (λ (v : List Visit). run_visits run ++ v) behind
 

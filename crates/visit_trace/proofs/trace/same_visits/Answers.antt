@@ -6,7 +6,7 @@ pub returns-then-not-same_visit : goal.returns-then-not-same_visit
 returns-then-not-same_visit c = (
   λ no. absurd cc,
   λ same.
-    let kept = c.loop-visit.invariant in
-    c.if-not-same_visit.ensures.1
-    (same_next _ _ _ _ _ _ _ _ _ kept.2 kept.3 c.in-Some.ensures.steps c.in-Some-next.ensures.steps (ap (λ v. v.entry) same)),
+      let kept = c.loop-visit.invariant in
+      c.if-not-same_visit.ensures.1
+      (same_next _ _ _ _ _ _ _ _ _ kept.2 kept.3 c.in-Some.ensures.steps c.in-Some-next.ensures.steps (ap (λ v. v.entry) same)),
 )
