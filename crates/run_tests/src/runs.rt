@@ -670,11 +670,25 @@ fn traces(rt: HostRuntime) -> Result<(), Fail> {
     Ok(())
 }
 
+// What the servers see where words, each over as many rows of one text, put these texts.
+fn traces_of<R: Abort + Threads + Sync>(
+    rt: &R,
+    alloc: Global,
+    rows: u64,
+    cases: [(&str, &str, &str); 2],
+) -> Result<Vec<Trace>, Memory> {
+    let mut traces = Vec::new(alloc);
+    for (words, row, text) in cases {
+        let input = rows_alike(alloc, rows, row)?;
+        traces.push(answers(rt, alloc, words, &input, text)?)?;
+    }
+    Ok(traces)
+}
+
 // Two queries of one shape, over other values: the servers see the same of them. Each run visits two chunks of one column and then of
 // the values' column.
 #[test]
 fn seen_alike(rt: HostRuntime) -> Result<(), Fail> {
-    let alloc = rt.alloc();
     let cases = [
         (
             "ask|host:2|--query|sum host=0..1",
@@ -687,18 +701,35 @@ fn seen_alike(rt: HostRuntime) -> Result<(), Fail> {
             "ask 0 rows 65 sum 130\n",
         ),
     ];
-    let mut traces = Vec::new(alloc);
-    for (words, row, text) in cases {
-        let input = rows_alike(alloc, 65, row).ok().ok_or("memory")?;
-        let trace = answers(&rt, alloc, words, &input, text)
-            .ok()
-            .ok_or("memory")?;
-        traces.push(trace)?;
-    }
+    let traces = traces_of(&rt, rt.alloc(), 65, cases).ok().ok_or("memory")?;
     assert_eq!(&rt; traces.len(), 2);
     assert!(&rt; same(&traces[0], &traces[1]));
     assert_eq!(&rt; traces[0].visits(2).take(9).count(), 8);
     assert_eq!(&rt; traces[0].lengths(2).len(), 7);
+    Ok(())
+}
+
+// One schedule over other rows and with other bounds: the servers see the same of it. The first answer is over one row, the second
+// over two; each run of each visits the chunk of one column and that of the values.
+#[test]
+fn schedules_seen_alike(rt: HostRuntime) -> Result<(), Fail> {
+    let cases = [
+        (
+            "replay|host:2|--query|sum host=0..1|--schedule|d0 p0.0 p0.1 p0.2 f1 f1 f1 a1.0 d0 p0.0 p0.1 p0.2 f1 f1 f1 a1.0",
+            "0,7",
+            "draw 0 place 0\nask 1.0 rows 1 sum 7\ndraw 0 place 1\nask 1.1 rows 2 sum 14\n",
+        ),
+        (
+            "replay|host:2|--query|sum host=2..3|--schedule|d0 p0.0 p0.1 p0.2 f1 f1 f1 a1.0 d0 p0.0 p0.1 p0.2 f1 f1 f1 a1.0",
+            "1,9",
+            "draw 0 place 0\nask 1.0 rows 1 sum 0\ndraw 0 place 1\nask 1.1 rows 2 sum 0\n",
+        ),
+    ];
+    let traces = traces_of(&rt, rt.alloc(), 2, cases).ok().ok_or("memory")?;
+    assert_eq!(&rt; traces.len(), 2);
+    assert!(&rt; same(&traces[0], &traces[1]));
+    assert_eq!(&rt; traces[0].visits(2).take(9).count(), 8);
+    assert_eq!(&rt; traces[0].lengths(2).len(), 14);
     Ok(())
 }
 

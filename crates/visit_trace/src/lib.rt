@@ -1,6 +1,6 @@
 //! What a server can see of a query: which chunks of which columns it visits, and how long the messages are that it sends or
-//! receives, each in order. A trace holds this for the three servers. It follows from the number of rows, the widths of the
-//! columns and the shape of the query alone: no value, bound or seed is in it.
+//! receives, each in order. A trace holds this for the three servers, the visits as runs of chunks. It follows from the number of
+//! rows, the widths of the columns and the shape of the query alone: no value, bound or seed is in it.
 //!
 //! ```text
 //! use visit_trace::{Sizes, Trace, expected, same};
