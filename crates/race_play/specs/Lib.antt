@@ -11,6 +11,7 @@ pub mod Questions
 pub mod Raced
 pub mod Reports
 pub mod Rounds
+pub mod Seen
 pub mod Settings
 pub mod Turns
 pub mod Writes

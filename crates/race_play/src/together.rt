@@ -1,6 +1,6 @@
 //! Writers and askers at once.
 ghost use denote.Param.Send.{IsSend, IsSync};
-ghost use Rattle.std.specs.Prelude.{◌≡◌, ℕ, ◌≤◌, ◌<◌, ◌+◌, [], All, IfOk, List, length};
+ghost use Rattle.std.specs.Prelude.{◌≡◌, ℕ, ◌≤◌, ◌<◌, ◌+◌, [], All, IfOk, OnErr, List, length};
 ghost use Rattle.table_schema.specs.Widths.{Holds};
 ghost use Rattle.waldo_table.specs.Tables.{IsOf};
 ghost use Rattle.wire_line.specs.declared.message.Message.{Message};
@@ -9,6 +9,7 @@ ghost use Rattle.race_play.specs.Asking.{AsksAll, CanAsk};
 ghost use Rattle.race_play.specs.Begun.{AreBegun};
 ghost use Rattle.race_play.specs.Jobs.{AllDone, AreNumbered, IsDone, IsFresh, IsReady};
 ghost use Rattle.race_play.specs.Raced.{IsRaced};
+ghost use Rattle.race_play.specs.Seen.{NotesAll, NotesFirst, all_rounds};
 ghost use Rattle.race_play.specs.Settings.{IsSetting, setting_of};
 
 use crate::askers::race_askers;
@@ -25,6 +26,7 @@ use std::alloc::Global;
 use std::sync::Wait;
 use std::thread::{Threads, join_mut};
 use table_schema::Row;
+use visit_trace::Trace;
 use waldo_table::{Pass, Table};
 use wire_line::Wire;
 
@@ -100,6 +102,7 @@ fn run_both<R: Threads + Wait + Sync, W: Wire + Send, G: Gate + Sync>(
     jobs: &mut Vec<WriterJob>,
     pass: &mut Pass,
     wires: &mut [W],
+    trace: &mut Trace,
 ) -> Result<Said, Memory>
     requires held { All (Holds table.now.widths) race.now.rows.now }
     requires few { length race.now.rows.now ≤ 65536 }
@@ -108,7 +111,7 @@ fn run_both<R: Threads + Wait + Sync, W: Wire + Send, G: Gate + Sync>(
     requires wires { race.now.crew.askers ≤ length wires.old }
     ensures done { AllDone table.now race.now.rows.now race.now.master race.now.crew.writers jobs.old.items jobs.new.items }
     ensures asked { AsksAll W.sight table.now race.now.queries.now race.now.master race.now.crew 0
-        pass.old pass.new wires.old wires.new result }
+        pass.old pass.new wires.old wires.new trace.old trace.new result }
 {
     let mut write = ||
         requires { IsSync R.row × IsSync G.row × All (Holds table.now.widths) race.now.rows.now × (length race.now.rows.now ≤ 65536)
@@ -131,7 +134,8 @@ fn run_both<R: Threads + Wait + Sync, W: Wire + Send, G: Gate + Sync>(
         requires { IsSync R.row × IsSync G.row × IsSend W.row × CanAsk table.now race.now.queries.now race.now.crew pass.now
             × (race.now.crew.askers ≤ length wires.now) }
         ensures { AsksAll W.sight table.entry.now race.entry.now.queries.now race.entry.now.master
-            race.entry.now.crew 0 pass.entry.now pass.exit.now wires.entry.now wires.exit.now result }
+            race.entry.now.crew 0 pass.entry.now pass.exit.now wires.entry.now wires.exit.now
+            trace.entry.now trace.exit.now result }
     {
         race_askers(
             rt,
@@ -144,6 +148,7 @@ fn run_both<R: Threads + Wait + Sync, W: Wire + Send, G: Gate + Sync>(
             gate,
             pass,
             wires,
+            trace,
         )
     };
     let (_, said) = join_mut(rt, &mut write, &mut ask);
@@ -158,7 +163,8 @@ pub struct Raced {
     pub asks: Said,
 }
 
-/// All writers and askers at once, with passes that are split off this one and gathered into it. The only error is out of memory.
+/// All writers and askers at once, with passes that are split off this one and gathered into it. The trace grows by what the servers see
+/// of the rounds. The only error is out of memory.
 pub(crate) fn race_all<R: Threads + Wait + Sync, W: Wire + Send, G: Gate + Sync>(
     rt: &R,
     alloc: Global,
@@ -167,6 +173,7 @@ pub(crate) fn race_all<R: Threads + Wait + Sync, W: Wire + Send, G: Gate + Sync>
     race: &Race<'_>,
     gate: &G,
     wires: &mut [W],
+    trace: &mut Trace,
 ) -> Result<Raced, Memory>
     requires pass { IsOf table.now pass.old }
     requires fresh { IsFresh pass.old }
@@ -182,10 +189,14 @@ pub(crate) fn race_all<R: Threads + Wait + Sync, W: Wire + Send, G: Gate + Sync>
     ensures begun { (sent : List (List Message)) × WentEach W.sight sent wires.old wires.new
         × AreBegun race.now.widths race.now.queries.now race.now.master race.now.crew.rounds pass.new.sight.order 0 sent
         × (length sent ≤ race.now.crew.askers) }
+    ensures seen { IfOk result (λ r. NotesAll race.now.widths (all_rounds (setting_of race.now)) r.asks trace.old trace.new) }
+    ensures seen_first { OnErr result (NotesFirst race.now.widths (all_rounds (setting_of race.now)) trace.old trace.new) }
 {
     let mut jobs = split_jobs(alloc, table, pass, race.rows.len(), race.crew.writers)?;
     let mut mine = table.split_pass(pass, 0);
-    let asks = run_both(rt, alloc, table, race, gate, &mut jobs, &mut mine, wires);
+    let asks = run_both(
+        rt, alloc, table, race, gate, &mut jobs, &mut mine, wires, trace,
+    );
     table.gather(pass, mine);
     let gathered = gather_all(
         alloc,
