@@ -1,6 +1,6 @@
 -- What the servers see of questions, one after another.
 use Rattle.std.proofs.Common.{◌≡◌, ◌∙◌, refl, sym, ap, subst, ℕ, suc, ◌+◌, ◌<◌, ◌≤◌, List, [], ◌∷◌, ◌++◌, append-nil, append_assoc, length, length-append, inl, inr, arith}
-use Rattle.std.specs.Prelude.{◌⊎◌, IfOk, IsErr, OnErr, Result, Ok, Err, Some, slice_get}
+use Rattle.std.specs.Prelude.{IfOk, IsErr, OnErr, Result, Ok, Err, Some, slice_get}
 use Rattle.std.proofs.lemmas.Grind.{flat_map-append}
 use Rattle.std.proofs.lemmas.List.{length-take}
 use Rattle.query_plan.specs.declared.query.Query.{Query}
@@ -18,11 +18,14 @@ use Rattle.waldo_table.specs.Asks.{AsksTrace, rows_of}
 use Rattle.waldo_table.specs.Tables.{PassView}
 use Rattle.waldo_table.specs.declared.faults.AskFault.{AskFault}
 use Rattle.waldo_table.specs.declared.faults.AskFault.TheVariants as ask
+use Rattle.race_play.specs.Heard.{JoinsFirst, JoinsHeard, JoinsSaid}
 use Rattle.race_play.specs.Lines.{line_of_ask}
 use Rattle.race_play.specs.Printed.{IsBackLine}
 use Rattle.race_play.specs.Questions.{Question}
 use Rattle.race_play.specs.Reports.{place_lines}
-use Rattle.race_play.specs.Seen.{Notes, NotesAll, NotesFirst, NotesLine, asked_seen, query_seen, rows_answered, rows_said}
+use Rattle.race_play.specs.Seen.{Notes, NotesAll, NotesFirst, NotesLine, all_rounds, asked_seen, query_seen, rounds_from, rows_answered, rows_said}
+use Rattle.race_play.specs.Settings.{setting_of}
+use Rattle.race_play.specs.declared.setting.Race.{Race}
 
 -- ---- one part after another
 
@@ -213,23 +216,49 @@ module _ (w : Widths) where
   at_err xs a b (Ok said) failed h = absurd cc
   at_err xs a b (Err e) failed h = h
 
-  pub notes_beside : (xs ys : List Question) (a b d behind : AllSeen) (first others result : Result (List Line) Memory) → Notes w xs a b first → Notes w ys (alike nothing) behind others
-      → IfOk result (λ said. (own : List Line) × (more : List Line) × (first ≡ Ok own) × (others ≡ Ok more) × (said ≡ own ++ more))
-      → IfOk result (λ _. Grew b d behind)
-      → OnErr result (((d ≡ b) × IsErr first) ⊎ ((own : List Line) × (first ≡ Ok own) × GrewPrefix b d behind))
-      → Notes w (xs ++ ys) a d result
-  notes_beside xs ys a b d behind first others (Ok said) p q joined grew broken =
+  joined_ok : (xs ys : List Question) (a b d behind : AllSeen) (first others : Result (List Line) Memory) (said : List Line) → Notes w xs a b first → Notes w ys (alike nothing) behind others
+      → JoinsSaid first others said → Grew b d behind → NotesAll w (xs ++ ys) said a d
+  joined_ok xs ys a b d behind first others said p q joined grew =
       let more = at_ok ys (alike nothing) behind others joined.1 joined.3 q in
       subst (λ (l : List Line). NotesAll w (xs ++ ys) l a d) (sym joined.4)
       (notes_both xs ys joined.0 joined.1 a b d (at_ok xs a b first joined.0 joined.2 p) more.each
       (grew_same b d behind (asked_seen w ys (rows_answered joined.1)) grew more.grew))
-  notes_beside xs ys a b d behind first others (Err e) p q joined grew broken = elim broken [
+
+  joined_first : (xs ys : List Question) (a b d behind : AllSeen) (first others : Result (List Line) Memory) → Notes w xs a b first → Notes w ys (alike nothing) behind others
+      → JoinsFirst first b behind d → NotesFirst w (xs ++ ys) a d
+  joined_first xs ys a b d behind first others p q broken = elim broken [
     | inl none ↦ subst (λ (t : AllSeen). NotesFirst w (xs ++ ys) a t) (sym none.0) (first_more xs ys a b (at_err xs a b first none.1 p))
     | inr some ↦ (
       let f = notes_first ys (alike nothing) behind others q in
       first_behind xs ys some.0 a b d (at_ok xs a b first some.0 some.1 p)
       (record { rows = f.rows; few = f.few; grew = prefix_less b d behind (asked_seen w ys f.rows) some.2 f.grew }))
   ]
+
+  pub notes_beside : (xs ys : List Question) (a b d behind : AllSeen) (first others result : Result (List Line) Memory) → Notes w xs a b first → Notes w ys (alike nothing) behind others
+      → JoinsHeard b first behind others d result → Notes w (xs ++ ys) a d result
+  notes_beside xs ys a b d behind first others (Ok said) p q j = joined_ok xs ys a b d behind first others said p q j.said j.trace
+  notes_beside xs ys a b d behind first others (Err e) p q j = joined_first xs ys a b d behind first others p q j.trace_first
+
+  -- what all askers noted into a trace of their own is noted behind another one
+  pub notes_noted : (xs : List Question) (a d behind : AllSeen) (heard result : Result (List Line) Memory) → Notes w xs (alike nothing) behind heard
+      → IfOk result (λ said. heard ≡ Ok said) → IfOk result (λ _. Grew a d behind) → OnErr result (GrewPrefix a d behind) → Notes w xs a d result
+  notes_noted xs a d behind heard (Ok said) p is grew broken =
+      let all = at_ok xs (alike nothing) behind heard said is p in
+      record { each = all.each; grew = grew_same a d behind (asked_seen w xs (rows_answered said)) grew all.grew }
+  notes_noted xs a d behind heard (Err e) p is grew broken =
+      let f = notes_first xs (alike nothing) behind heard p in
+      record { rows = f.rows; few = f.few; grew = prefix_less a d behind (asked_seen w xs f.rows) broken f.grew }
+
+-- what the askers of a race noted, in the widths of the race
+pub rounds_noted : (w : Widths) (race : Race) (a d behind : AllSeen) (heard result : Result (List Line) Memory) → w ≡ race.widths
+    → (count : ℕ) × (count + 0 ≡ race.crew.askers) × Notes w (rounds_from race.queries.now race.master race.crew.rounds 0 count) (alike nothing) behind heard
+    → IfOk result (λ said. heard ≡ Ok said) → IfOk result (λ _. Grew a d behind) → OnErr result (GrewPrefix a d behind)
+    → Notes race.widths (all_rounds (setting_of race)) a d result
+rounds_noted w race a d behind heard result same seen is grew broken =
+    let all : seen.0 ≡ race.crew.askers = let n = seen.1 in omega arith in
+    subst (λ (v : Widths). Notes v (all_rounds (setting_of race)) a d result) same
+    (subst (λ (n : ℕ). Notes w (rounds_from race.queries.now race.master race.crew.rounds 0 n) a d result) all
+    (notes_noted w (rounds_from race.queries.now race.master race.crew.rounds 0 seen.0) a d behind heard result seen.2 is grew broken))
 
 -- ---- the lines of a report
 

@@ -3,6 +3,7 @@ pub mod Asking
 pub mod Begun
 pub mod Filled
 pub mod Gathers
+pub mod Heard
 pub mod Jobs
 pub mod Laws
 pub mod Lines

@@ -1,6 +1,6 @@
 //! Writers and askers at once.
 ghost use denote.Param.Send.{IsSend, IsSync};
-ghost use Rattle.std.specs.Prelude.{◌≡◌, ℕ, ◌≤◌, ◌<◌, ◌+◌, [], All, IfOk, OnErr, List, length};
+ghost use Rattle.std.specs.Prelude.{◌≡◌, ℕ, ◌≤◌, ◌<◌, ◌+◌, [], All, IfOk, OnErr, Ok, List, length};
 ghost use Rattle.table_schema.specs.Widths.{Holds};
 ghost use Rattle.waldo_table.specs.Tables.{IsOf};
 ghost use Rattle.wire_line.specs.declared.message.Message.{Message};
@@ -10,9 +10,10 @@ ghost use Rattle.race_play.specs.Begun.{AreBegun};
 ghost use Rattle.race_play.specs.Jobs.{AllDone, AreNumbered, IsDone, IsFresh, IsReady};
 ghost use Rattle.race_play.specs.Raced.{IsRaced};
 ghost use Rattle.race_play.specs.Seen.{NotesAll, NotesFirst, all_rounds};
+ghost use Rattle.visit_trace.specs.Seen.{Grew, GrewPrefix, alike, nothing};
 ghost use Rattle.race_play.specs.Settings.{IsSetting, setting_of};
 
-use crate::askers::race_askers;
+use crate::askers::{Heard, race_askers};
 use crate::gate::Gate;
 use crate::gather::gather_all;
 use crate::jobs::{WriterJob, run_writers};
@@ -102,8 +103,7 @@ fn run_both<R: Threads + Wait + Sync, W: Wire + Send, G: Gate + Sync>(
     jobs: &mut Vec<WriterJob>,
     pass: &mut Pass,
     wires: &mut [W],
-    trace: &mut Trace,
-) -> Result<Said, Memory>
+) -> Heard
     requires held { All (Holds table.now.widths) race.now.rows.now }
     requires few { length race.now.rows.now ≤ 65536 }
     requires ready { All (IsReady table.now (length race.now.rows.now) race.now.crew.writers) jobs.old.items }
@@ -111,7 +111,7 @@ fn run_both<R: Threads + Wait + Sync, W: Wire + Send, G: Gate + Sync>(
     requires wires { race.now.crew.askers ≤ length wires.old }
     ensures done { AllDone table.now race.now.rows.now race.now.master race.now.crew.writers jobs.old.items jobs.new.items }
     ensures asked { AsksAll W.sight table.now race.now.queries.now race.now.master race.now.crew 0
-        pass.old pass.new wires.old wires.new trace.old trace.new result }
+        pass.old pass.new wires.old wires.new (alike nothing) result.trace result.said }
 {
     let mut write = ||
         requires { IsSync R.row × IsSync G.row × All (Holds table.now.widths) race.now.rows.now × (length race.now.rows.now ≤ 65536)
@@ -130,12 +130,12 @@ fn run_both<R: Threads + Wait + Sync, W: Wire + Send, G: Gate + Sync>(
             jobs,
         )
     };
-    let mut ask = || -> Result<Said, Memory>
+    let mut ask = || -> Heard
         requires { IsSync R.row × IsSync G.row × IsSend W.row × CanAsk table.now race.now.queries.now race.now.crew pass.now
             × (race.now.crew.askers ≤ length wires.now) }
         ensures { AsksAll W.sight table.entry.now race.entry.now.queries.now race.entry.now.master
             race.entry.now.crew 0 pass.entry.now pass.exit.now wires.entry.now wires.exit.now
-            trace.entry.now trace.exit.now result }
+            (alike nothing) result.trace result.said }
     {
         race_askers(
             rt,
@@ -148,11 +148,10 @@ fn run_both<R: Threads + Wait + Sync, W: Wire + Send, G: Gate + Sync>(
             gate,
             pass,
             wires,
-            trace,
         )
     };
-    let (_, said) = join_mut(rt, &mut write, &mut ask);
-    said
+    let (_, heard) = join_mut(rt, &mut write, &mut ask);
+    heard
 }
 
 /// The number of the input row at each place, the writers' lines, and the askers' lines.
@@ -161,6 +160,16 @@ pub struct Raced {
     pub order: Vec<u64>,
     pub backs: Vec<Line>,
     pub asks: Said,
+}
+
+// What askers were answered; what they noted is noted behind what stands in the trace.
+fn noted(heard: Heard, trace: &mut Trace) -> Result<Said, Memory>
+    ensures said { IfOk result (λ said. heard.said ≡ Ok said) }
+    ensures trace { IfOk result (λ _. Grew trace.old trace.new heard.trace) }
+    ensures trace_first { OnErr result (GrewPrefix trace.old trace.new heard.trace) }
+{
+    trace.note_trace(&heard.trace)?;
+    heard.said
 }
 
 /// All writers and askers at once, with passes that are split off this one and gathered into it. The trace grows by what the servers see
@@ -194,10 +203,9 @@ pub(crate) fn race_all<R: Threads + Wait + Sync, W: Wire + Send, G: Gate + Sync>
 {
     let mut jobs = split_jobs(alloc, table, pass, race.rows.len(), race.crew.writers)?;
     let mut mine = table.split_pass(pass, 0);
-    let asks = run_both(
-        rt, alloc, table, race, gate, &mut jobs, &mut mine, wires, trace,
-    );
+    let heard = run_both(rt, alloc, table, race, gate, &mut jobs, &mut mine, wires);
     table.gather(pass, mine);
+    let asks = noted(heard, trace);
     let gathered = gather_all(
         alloc,
         table,
