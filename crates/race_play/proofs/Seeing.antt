@@ -44,6 +44,11 @@ then_nothing : (s : Seen) → then_at s nothing ≡ s
 then_nothing s =
     ap (λ v. record { visits = v; lengths = s.lengths ++ [] }) (append-nil s.visits) ∙ ap (λ (l : List ℕ). record { visits = s.visits; lengths = l }) (append-nil s.lengths)
 
+-- what holds in any case holds where memory ran out
+pub if_err : {T E : Type 0} (r : Result T E) (P : Type 0) → P → OnErr r P
+if_err (Ok x) P p = tt
+if_err (Err e) P p = p
+
 -- ---- what was noted into a trace of nothing, and then behind another one
 
 adds_less : {A : Type 0} (a b xs ys : List A) → AddsPrefix a b xs → AddsPrefix [] xs ys → AddsPrefix a b ys

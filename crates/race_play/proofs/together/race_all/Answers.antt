@@ -1,6 +1,7 @@
 use Rattle.std.proofs.Common.{◌∙◌, ap, refl, subst, List, [], arith}
 use Rattle.std.proofs.lemmas.List.{length-map}
 use Rattle.std.proofs.lemmas.Result.{IfOk-at_ok}
+use Rattle.std.specs.Prelude.{Ok}
 use Rattle.table_schema.specs.declared.widths.Widths.{Widths}
 use Rattle.ticket_place.specs.Sights.{Named}
 use Rattle.waldo_table.specs.Tables.{PassView}
@@ -14,7 +15,7 @@ use Rattle.race_play.proofs.Gathering.{ended_long}
 use Rattle.race_play.proofs.Racing.{all_backs, first_of, gathered_of}
 use Rattle.race_play.specs.Seen.{all_rounds}
 use Rattle.race_play.specs.Settings.{setting_of}
-use Rattle.race_play.proofs.Seeing.{first_none, rounds_noted}
+use Rattle.race_play.proofs.Seeing.{first_none, if_err, notes_first, rounds_noted}
 use Rattle.race_play.proofs.Writing.{grows_trans}
 use Rattle.race_play.proofs.together.race_all.Goals as goal
 
@@ -95,18 +96,36 @@ returns-clause-begun g c =
     (grows_trans c.run_both-heard.new.pass c.gather.new.pass c.gather_all.new.pass c.gather.ensures.grows.1 c.gather_all.ensures.grows).order b.0 b.1 b.2 b.3
 
 pub returns-in_err-jobs-clause-seen_first : goal.returns-in_err-jobs-clause-seen_first
-returns-in_err-jobs-clause-seen_first g c = first_none c.args.race.now.widths (all_rounds (setting_of c.args.race.now)) c.args.trace.now
+returns-in_err-jobs-clause-seen_first g c =
+    let race = c.args.race.now in
+    if_err _ _ (first_none race.widths (all_rounds (setting_of race)) c.args.trace.now)
 
 pub returns-clause-seen : goal.returns-clause-seen
 returns-clause-seen g c =
-    rounds_noted c.args.table.now.widths c.args.race.now c.args.trace.now c.noted-asks.new.trace c.run_both-heard.result.trace c.run_both-heard.result.said c.noted-asks.result c.requires.widths
-    c.run_both-heard.ensures.asked.seen c.noted-asks.ensures.said c.noted-asks.ensures.trace c.noted-asks.ensures.trace_first
-
-pub returns-in_err-asks-clause-seen_first : goal.returns-in_err-asks-clause-seen_first
-returns-in_err-asks-clause-seen_first g c = ?
+    let race = c.args.race.now in
+    rounds_noted c.args.table.now.widths race c.args.trace.now c.noted-asks.new.trace c.run_both-heard.result.trace c.run_both-heard.result.said (Ok c.in_ok-asks.field-0) c.requires.widths
+    c.run_both-heard.ensures.asked.seen c.in_ok-asks.ensures.said c.in_ok-asks.ensures.trace tt
 
 pub returns-in_err-gathered-clause-seen_first : goal.returns-in_err-gathered-clause-seen_first
-returns-in_err-gathered-clause-seen_first g c = ?
+returns-in_err-gathered-clause-seen_first g c =
+    let race = c.args.race.now in
+    if_err _ _
+    (notes_first race.widths (all_rounds (setting_of race)) c.args.trace.now c.noted-asks.new.trace c.noted-asks.result
+    (rounds_noted c.args.table.now.widths race c.args.trace.now c.noted-asks.new.trace c.run_both-heard.result.trace c.run_both-heard.result.said c.noted-asks.result c.requires.widths
+    c.run_both-heard.ensures.asked.seen c.noted-asks.ensures.said c.noted-asks.ensures.trace c.noted-asks.ensures.trace_first))
 
 pub returns-in_err-order-clause-seen_first : goal.returns-in_err-order-clause-seen_first
-returns-in_err-order-clause-seen_first g c = ?
+returns-in_err-order-clause-seen_first g c =
+    let race = c.args.race.now in
+    if_err _ _
+    (notes_first race.widths (all_rounds (setting_of race)) c.args.trace.now c.noted-asks.new.trace c.noted-asks.result
+    (rounds_noted c.args.table.now.widths race c.args.trace.now c.noted-asks.new.trace c.run_both-heard.result.trace c.run_both-heard.result.said c.noted-asks.result c.requires.widths
+    c.run_both-heard.ensures.asked.seen c.noted-asks.ensures.said c.noted-asks.ensures.trace c.noted-asks.ensures.trace_first))
+
+pub returns-in_err-asks-clause-seen_first : goal.returns-in_err-asks-clause-seen_first
+returns-in_err-asks-clause-seen_first g c =
+    let race = c.args.race.now in
+    if_err _ _
+    (notes_first race.widths (all_rounds (setting_of race)) c.args.trace.now c.noted-asks.new.trace c.noted-asks.result
+    (rounds_noted c.args.table.now.widths race c.args.trace.now c.noted-asks.new.trace c.run_both-heard.result.trace c.run_both-heard.result.said c.noted-asks.result c.requires.widths
+    c.run_both-heard.ensures.asked.seen c.noted-asks.ensures.said c.noted-asks.ensures.trace c.noted-asks.ensures.trace_first))
