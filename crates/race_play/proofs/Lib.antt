@@ -11,6 +11,7 @@ pub mod Playing
 pub mod Racing
 pub mod Reporting
 pub mod Seeing
+pub mod SeenAlike
 pub mod Splitting
 pub mod Sums
 pub mod Writing

@@ -23,8 +23,8 @@ use Rattle.race_play.specs.Lines.{line_of_ask}
 use Rattle.race_play.specs.Printed.{IsBackLine}
 use Rattle.race_play.specs.Questions.{Question}
 use Rattle.race_play.specs.Reports.{place_lines}
-use Rattle.race_play.specs.Seen.{Notes, NotesAll, NotesFirst, NotesLine, all_rounds, asked_seen, query_seen, rounds_from, rows_answered, rows_said}
-use Rattle.race_play.specs.Settings.{setting_of}
+use Rattle.race_play.specs.Seen.{Notes, NotesAll, NotesFirst, NotesLine, all_questions, all_rounds, asked_seen, query_seen, report_seen, rounds_from, rows_answered, rows_said}
+use Rattle.race_play.specs.Settings.{Setting, setting_of}
 use Rattle.race_play.specs.declared.setting.Race.{Race}
 
 -- ---- one part after another
@@ -302,7 +302,7 @@ backs_none n writers order from (line ∷ said) each =
     ∙ backs_none n writers order (suc from) said (λ w l at. let z : from + suc w ≡ suc from + w = omega arith in subst (λ (k : ℕ). IsBackLine n writers order k l) z (each (suc w) l at))
 
 -- the numbers of rows that a report says are those of the askers' lines, and then those of the last queries
-pub report_rows : (n writers : ℕ) (order : List ℕ) (backs asks ends said : List Line) → said ≡ lines.Rows (length order) ∷ place_lines 0 order ++ backs ++ asks ++ ends
+report_rows : (n writers : ℕ) (order : List ℕ) (backs asks ends said : List Line) → said ≡ lines.Rows (length order) ∷ place_lines 0 order ++ backs ++ asks ++ ends
     → ((w : ℕ) (line : Line) → slice_get backs w ≡ Some line → IsBackLine n writers order w line) → rows_answered said ≡ rows_answered (asks ++ ends)
 report_rows n writers order backs asks ends said text each =
     ap rows_answered text
@@ -313,3 +313,10 @@ report_rows n writers order backs asks ends said text each =
     ∙ ap (λ (l : List ℕ). (l ++ rows_answered asks) ++ rows_answered ends)
     (backs_none n writers order 0 backs (λ w line at. let z : w ≡ 0 + w = omega arith in subst (λ (k : ℕ). IsBackLine n writers order k line) z (each w line at)))
     ∙ sym (answered_both asks ends)
+
+-- a trace grew by what the servers see of a report
+pub report_grew : (s : Setting) (order : List ℕ) (backs asks ends said : List Line) (a d : AllSeen) → NotesAll s.widths (all_questions s) (asks ++ ends) a d
+    → ((w : ℕ) (line : Line) → slice_get backs w ≡ Some line → IsBackLine (length s.rows) s.writers order w line)
+    → said ≡ lines.Rows (length order) ∷ place_lines 0 order ++ backs ++ asks ++ ends → Grew a d (report_seen s said)
+report_grew s order backs asks ends said a d all each text =
+    subst (λ (ns : List ℕ). Grew a d (asked_seen s.widths (all_questions s) ns)) (sym (report_rows (length s.rows) s.writers order backs asks ends said text each)) all.grew
