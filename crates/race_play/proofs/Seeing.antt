@@ -234,9 +234,9 @@ module _ (w : Widths) where
   joined_first xs ys a b d behind first others p q broken = elim broken [
     | inl none ↦ subst (λ (t : AllSeen). NotesFirst w (xs ++ ys) a t) (sym none.0) (first_more xs ys a b (at_err xs a b first none.1 p))
     | inr some ↦ (
-      let f = notes_first ys (alike nothing) behind others q in
-      first_behind xs ys some.0 a b d (at_ok xs a b first some.0 some.1 p)
-      (record { rows = f.rows; few = f.few; grew = prefix_less b d behind (asked_seen w ys f.rows) some.2 f.grew }))
+        let f = notes_first ys (alike nothing) behind others q in
+        first_behind xs ys some.0 a b d (at_ok xs a b first some.0 some.1 p)
+        (record { rows = f.rows; few = f.few; grew = prefix_less b d behind (asked_seen w ys f.rows) some.2 f.grew }))
   ]
 
   pub notes_beside : (xs ys : List Question) (a b d behind : AllSeen) (first others result : Result (List Line) Memory) → Notes w xs a b first → Notes w ys (alike nothing) behind others

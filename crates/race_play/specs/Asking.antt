@@ -50,4 +50,5 @@ pub record AsksAll {W : Type 0} (sight : Sight W)
   pub begun : (sent : List (List Message)) × WentEach sight sent vs ws
       × AreBegun t.widths queries master crew.rounds q.sight.order asker sent
       × (length sent + asker ≡ crew.askers)
-  pub seen : (count : ℕ) × (count + asker ≡ crew.askers) × Notes t.widths (rounds_from queries master crew.rounds asker count) old new result
+  pub seen : (count : ℕ) × (count + asker ≡ crew.askers)
+      × Notes t.widths (rounds_from queries master crew.rounds asker count) old new result
