@@ -10,6 +10,8 @@ pub mod Orders
 pub mod Playing
 pub mod Racing
 pub mod Reporting
+pub mod Seeing
+pub mod SeenAlike
 pub mod Splitting
 pub mod Sums
 pub mod Writing

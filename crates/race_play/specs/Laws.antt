@@ -1,13 +1,16 @@
 -- What the definitions say together.
-use Rattle.std.specs.Prelude.{◌≡◌, ℕ, ◌%◌, ◌<◌, ◌≤◌, Some, List, length, slice_get}
+use Rattle.std.specs.Prelude.{◌≡◌, ℕ, ◌%◌, ◌<◌, ◌≤◌, Some, List, length, map, slice_get}
 use Rattle.list_facts.specs.Count.{times}
 use Rattle.prg_chacha.specs.declared.seed.Seed.{Seed}
+use Rattle.query_plan.specs.Query.{shaped}
 use Rattle.table_schema.specs.declared.rows.Row.{Row}
 use Rattle.race_play.specs.Filled.{IsGathered, filled_all}
 use mathlib.Core.List.{IsPrefix}
 use Rattle.report_lines.specs.declared.lines.Line.{Line}
 use Rattle.waldo_table.specs.Tables.{PassView}
 use Rattle.race_play.specs.Printed.{At, IsBackLine, IsOrder, IsPast}
+use Rattle.race_play.specs.Seen.{report_seen, rows_answered}
+use Rattle.race_play.specs.Settings.{Setting}
 use Rattle.race_play.specs.Turns.{turns}
 use Rattle.race_play.specs.Writes.{IsEntry, Wrote_back, floor_over}
 
@@ -40,3 +43,10 @@ BacksStand = (rows : List Row) (master : Seed) (writers : ℕ) (order : List (Ro
     → (w : ℕ) (own : List ℕ) (p : PassView) (line : Line) (q : PassView) → slice_get places w ≡ Some own → p.floor ≡ 0
     → Wrote_back rows master w (turns w writers (length rows)) p own line q
     → IsPrefix q.sight.order order → q.floor ≤ length q.sight.order → IsBackLine (length rows) writers printed w line
+
+-- Races over columns of equal widths, with equally many askers and rounds and with queries of equal shapes, whose reports say equal numbers
+-- of rows: the servers see the same of them, whatever the rows hold, whatever the queries' bounds and the seeds are, and in whichever
+-- order the threads ran.
+abbrev pub RacesLookAlike : Type 0
+RacesLookAlike = (s t : Setting) (said more : List Line) → s.widths ≡ t.widths → map shaped s.queries ≡ map shaped t.queries
+    → s.askers ≡ t.askers → s.rounds ≡ t.rounds → rows_answered said ≡ rows_answered more → report_seen s said ≡ report_seen t more

@@ -3,6 +3,7 @@ pub mod Asking
 pub mod Begun
 pub mod Filled
 pub mod Gathers
+pub mod Heard
 pub mod Jobs
 pub mod Laws
 pub mod Lines
@@ -11,6 +12,7 @@ pub mod Questions
 pub mod Raced
 pub mod Reports
 pub mod Rounds
+pub mod Seen
 pub mod Settings
 pub mod Turns
 pub mod Writes

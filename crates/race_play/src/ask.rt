@@ -7,6 +7,7 @@ ghost use Rattle.race_play.specs.Asking.{AsksOne, CanAsk};
 ghost use Rattle.race_play.specs.Begun.{Began};
 ghost use Rattle.race_play.specs.Questions.{Gave, ends_of};
 ghost use Rattle.race_play.specs.Raced.{HasFirst};
+ghost use Rattle.race_play.specs.Seen.{Notes};
 ghost use Rattle.race_play.specs.Settings.{AreLegal};
 
 use crate::gate::Gate;
@@ -20,11 +21,12 @@ use ring128::Memory;
 use std::alloc::Global;
 use std::sync::Wait;
 use std::thread::Threads;
+use visit_trace::Trace;
 use waldo_table::{Pass, Table};
 use wire_line::Wire;
 
-/// The rounds of an asker, one after another: in each the next query, and behind the last the first again. The only error is out
-/// of memory.
+/// The rounds of an asker, one after another: in each the next query, and behind the last the first again. The trace grows by what
+/// the servers see of them. The only error is out of memory.
 pub(crate) fn ask_rounds<R: Threads + Wait + Sync, W: Wire, G: Gate>(
     rt: &R,
     alloc: Global,
@@ -36,10 +38,11 @@ pub(crate) fn ask_rounds<R: Threads + Wait + Sync, W: Wire, G: Gate>(
     gate: &G,
     pass: &mut Pass,
     wire: &mut W,
+    trace: &mut Trace,
 ) -> Result<Said, Memory>
     requires { CanAsk table.now queries.now crew.now pass.old }
     ensures { AsksOne W.sight table.now queries.now master.now crew.now asker
-        pass.old pass.new wire.old wire.new result }
+        pass.old pass.new wire.old wire.new trace.old trace.new result }
 {
     let mut said = Said::new(alloc);
     for round in 0..crew.rounds {
@@ -54,6 +57,7 @@ pub(crate) fn ask_rounds<R: Threads + Wait + Sync, W: Wire, G: Gate>(
             round,
             master,
             wire,
+            trace,
             crew.workers,
             gate,
         )?;
@@ -62,7 +66,8 @@ pub(crate) fn ask_rounds<R: Threads + Wait + Sync, W: Wire, G: Gate>(
     Ok(said)
 }
 
-/// Asks each query once over all rows, of which there are `rows`. The only error is out of memory.
+/// Asks each query once over all rows, of which there are `rows`. The trace grows by what the servers see of them. The only error is
+/// out of memory.
 pub(crate) fn ask_ends<R: Threads + Wait + Sync, W: Wire>(
     rt: &R,
     alloc: Global,
@@ -73,6 +78,7 @@ pub(crate) fn ask_ends<R: Threads + Wait + Sync, W: Wire>(
     rows: u64,
     pass: &mut Pass,
     wire: &mut W,
+    trace: &mut Trace,
 ) -> Result<Said, Memory>
     requires pass { IsOf table.now pass.old }
     requires all { HasFirst rows pass.old }
@@ -86,6 +92,7 @@ pub(crate) fn ask_ends<R: Threads + Wait + Sync, W: Wire>(
         × IfOk result (Gave table.now.widths pass.new.sight.order rows (ends_of queries.now master.now (length queries.now)) ms) }
     ensures begun { (ms : List Message) × Went W.sight wire.old ms wire.new
         × Began table.now.widths pass.new.sight.order rows (ends_of queries.now master.now (length queries.now)) ms }
+    ensures seen { Notes table.now.widths (ends_of queries.now master.now (length queries.now)) trace.old trace.new result }
 {
     let mut said = Said::new(alloc);
     for q in 0..queries.len() {
@@ -99,6 +106,7 @@ pub(crate) fn ask_ends<R: Threads + Wait + Sync, W: Wire>(
             &queries[q],
             &seed,
             wire,
+            trace,
             workers,
         )?;
         said.push(line)?;

@@ -1,6 +1,6 @@
 //! What the definitions say together, as functions without effect.
 
-ghost use Rattle.race_play.specs.Laws.{BacksStand, GatheredStands};
+ghost use Rattle.race_play.specs.Laws.{BacksStand, GatheredStands, RacesLookAlike};
 
 /// The order that is printed is an order of all rows, and it is the table's.
 pub fn gathered_stands()
@@ -10,4 +10,9 @@ pub fn gathered_stands()
 /// A writer's line says of the printed order what it should.
 pub fn backs_stand()
     ensures { BacksStand }
+{}
+
+/// Races that say equal numbers of rows look alike to each server.
+pub fn races_look_alike()
+    ensures { RacesLookAlike }
 {}

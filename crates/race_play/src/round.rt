@@ -8,6 +8,8 @@ ghost use Rattle.wire_line.specs.Messages.{Went};
 ghost use Rattle.wire_line.specs.declared.message.Message.{Message};
 ghost use Rattle.waldo_table.specs.Tables.{Grows, IsCovered, IsOf};
 ghost use Rattle.race_play.specs.Rounds.{Asks, BreaksOff, IsPlainLine};
+ghost use Rattle.race_play.specs.Seen.{NotesLine, query_seen};
+ghost use Rattle.visit_trace.specs.Seen.{GrewPrefix};
 ghost use Rattle.wire_line.specs.Sights.{HasAltered};
 
 use crate::gate::{Gate, Point};
@@ -33,6 +35,7 @@ pub(crate) fn ask_line<R: Threads + Wait + Sync, W: Wire>(
     query: &Query,
     seed: &Seed,
     wire: &mut W,
+    trace: &mut Trace,
     workers: u8,
 ) -> Result<Line, Memory>
     requires pass { IsOf table.now pass.old }
@@ -49,9 +52,10 @@ pub(crate) fn ask_line<R: Threads + Wait + Sync, W: Wire>(
         → IfOk result (IsPlainLine table.now.widths pass.new who query.now) }
     ensures broken { OnErr result ((ms : List Message) × Went W.sight wire.old ms wire.new
         × BreaksOff table.now.widths pass.old pass.new query.now seed.now ms) }
+    ensures trace { IfOk result (NotesLine table.now.widths query.now pass.new.floor trace.old trace.new) }
+    ensures trace_first { OnErr result (GrewPrefix trace.old trace.new (query_seen table.now.widths query.now pass.new.floor)) }
 {
-    let mut trace = Trace::new(alloc); // a race prints no traces
-    let asked = table.ask(rt, alloc, pass, query, seed, wire, &mut trace, workers);
+    let asked = table.ask(rt, alloc, pass, query, seed, wire, trace, workers);
     line_of_ask(who, pass.floor(), query.aggregate, asked)
 }
 
@@ -61,6 +65,8 @@ pub(crate) fn ask_line<R: Threads + Wait + Sync, W: Wire>(
 /// The line has the answer, or, where the check refuses it, the pair that the messages opened. The pass is one that never meets
 /// `Again`: it has seen as many rows at each server as its floor says, as a pass has that learned nothing and appended nothing. So
 /// the only error is out of memory, after which no message was carried, or the first ones of the query.
+///
+/// The trace grows by what the servers see of the query over the number of rows that the line says; out of memory by a prefix of that.
 pub fn ask_round<R: Threads + Wait + Sync, W: Wire, G: Gate>(
     rt: &R,
     alloc: Global,
@@ -71,6 +77,7 @@ pub fn ask_round<R: Threads + Wait + Sync, W: Wire, G: Gate>(
     round: u8,
     master: &Seed,
     wire: &mut W,
+    trace: &mut Trace,
     workers: u8,
     gate: &G,
 ) -> Result<Line, Memory>
@@ -89,13 +96,17 @@ pub fn ask_round<R: Threads + Wait + Sync, W: Wire, G: Gate>(
         → IfOk result (IsPlainLine table.now.widths pass.new (who.Round asker round) query.now) }
     ensures broken { OnErr result ((ms : List Message) × Went W.sight wire.old ms wire.new
         × BreaksOff table.now.widths pass.old pass.new query.now (derive_of master.now 2 asker round) ms) }
+    ensures trace { IfOk result (NotesLine table.now.widths query.now pass.new.floor trace.old trace.new) }
+    ensures trace_first { OnErr result (GrewPrefix trace.old trace.new (query_seen table.now.widths query.now pass.new.floor)) }
 {
     let seed = derive(master, 2, u16::from(asker), u64::from(round));
     let who = Who::Round {
         actor: asker,
         round: u64::from(round),
     };
-    let line = ask_line(rt, alloc, table, pass, who, query, &seed, wire, workers)?;
+    let line = ask_line(
+        rt, alloc, table, pass, who, query, &seed, wire, trace, workers,
+    )?;
     gate.pass(Point::AfterAnswer { asker, round });
     Ok(line)
 }

@@ -1,6 +1,6 @@
 //! Writers and askers at once.
 ghost use denote.Param.Send.{IsSend, IsSync};
-ghost use Rattle.std.specs.Prelude.{◌≡◌, ℕ, ◌≤◌, ◌<◌, ◌+◌, [], All, IfOk, List, length};
+ghost use Rattle.std.specs.Prelude.{◌≡◌, ℕ, ◌≤◌, ◌<◌, ◌+◌, [], All, IfOk, OnErr, Ok, List, length};
 ghost use Rattle.table_schema.specs.Widths.{Holds};
 ghost use Rattle.waldo_table.specs.Tables.{IsOf};
 ghost use Rattle.wire_line.specs.declared.message.Message.{Message};
@@ -9,9 +9,11 @@ ghost use Rattle.race_play.specs.Asking.{AsksAll, CanAsk};
 ghost use Rattle.race_play.specs.Begun.{AreBegun};
 ghost use Rattle.race_play.specs.Jobs.{AllDone, AreNumbered, IsDone, IsFresh, IsReady};
 ghost use Rattle.race_play.specs.Raced.{IsRaced};
+ghost use Rattle.race_play.specs.Seen.{NotesAll, NotesFirst, all_rounds};
+ghost use Rattle.visit_trace.specs.Seen.{Grew, GrewPrefix, alike, nothing};
 ghost use Rattle.race_play.specs.Settings.{IsSetting, setting_of};
 
-use crate::askers::race_askers;
+use crate::askers::{Heard, race_askers};
 use crate::gate::Gate;
 use crate::gather::gather_all;
 use crate::jobs::{WriterJob, run_writers};
@@ -25,6 +27,7 @@ use std::alloc::Global;
 use std::sync::Wait;
 use std::thread::{Threads, join_mut};
 use table_schema::Row;
+use visit_trace::Trace;
 use waldo_table::{Pass, Table};
 use wire_line::Wire;
 
@@ -100,7 +103,7 @@ fn run_both<R: Threads + Wait + Sync, W: Wire + Send, G: Gate + Sync>(
     jobs: &mut Vec<WriterJob>,
     pass: &mut Pass,
     wires: &mut [W],
-) -> Result<Said, Memory>
+) -> Heard
     requires held { All (Holds table.now.widths) race.now.rows.now }
     requires few { length race.now.rows.now ≤ 65536 }
     requires ready { All (IsReady table.now (length race.now.rows.now) race.now.crew.writers) jobs.old.items }
@@ -108,7 +111,7 @@ fn run_both<R: Threads + Wait + Sync, W: Wire + Send, G: Gate + Sync>(
     requires wires { race.now.crew.askers ≤ length wires.old }
     ensures done { AllDone table.now race.now.rows.now race.now.master race.now.crew.writers jobs.old.items jobs.new.items }
     ensures asked { AsksAll W.sight table.now race.now.queries.now race.now.master race.now.crew 0
-        pass.old pass.new wires.old wires.new result }
+        pass.old pass.new wires.old wires.new (alike nothing) result.trace result.said }
 {
     let mut write = ||
         requires { IsSync R.row × IsSync G.row × All (Holds table.now.widths) race.now.rows.now × (length race.now.rows.now ≤ 65536)
@@ -127,11 +130,12 @@ fn run_both<R: Threads + Wait + Sync, W: Wire + Send, G: Gate + Sync>(
             jobs,
         )
     };
-    let mut ask = || -> Result<Said, Memory>
+    let mut ask = || -> Heard
         requires { IsSync R.row × IsSync G.row × IsSend W.row × CanAsk table.now race.now.queries.now race.now.crew pass.now
             × (race.now.crew.askers ≤ length wires.now) }
         ensures { AsksAll W.sight table.entry.now race.entry.now.queries.now race.entry.now.master
-            race.entry.now.crew 0 pass.entry.now pass.exit.now wires.entry.now wires.exit.now result }
+            race.entry.now.crew 0 pass.entry.now pass.exit.now wires.entry.now wires.exit.now
+            (alike nothing) result.trace result.said }
     {
         race_askers(
             rt,
@@ -146,8 +150,8 @@ fn run_both<R: Threads + Wait + Sync, W: Wire + Send, G: Gate + Sync>(
             wires,
         )
     };
-    let (_, said) = join_mut(rt, &mut write, &mut ask);
-    said
+    let (_, heard) = join_mut(rt, &mut write, &mut ask);
+    heard
 }
 
 /// The number of the input row at each place, the writers' lines, and the askers' lines.
@@ -158,7 +162,18 @@ pub struct Raced {
     pub asks: Said,
 }
 
-/// All writers and askers at once, with passes that are split off this one and gathered into it. The only error is out of memory.
+// What askers were answered; what they noted is noted behind what stands in the trace.
+fn noted(heard: Heard, trace: &mut Trace) -> Result<Said, Memory>
+    ensures said { IfOk result (λ said. heard.said ≡ Ok said) }
+    ensures trace { IfOk result (λ _. Grew trace.old trace.new heard.trace) }
+    ensures trace_first { OnErr result (GrewPrefix trace.old trace.new heard.trace) }
+{
+    trace.note_trace(&heard.trace)?;
+    heard.said
+}
+
+/// All writers and askers at once, with passes that are split off this one and gathered into it. The trace grows by what the servers see
+/// of the rounds. The only error is out of memory.
 pub(crate) fn race_all<R: Threads + Wait + Sync, W: Wire + Send, G: Gate + Sync>(
     rt: &R,
     alloc: Global,
@@ -167,6 +182,7 @@ pub(crate) fn race_all<R: Threads + Wait + Sync, W: Wire + Send, G: Gate + Sync>
     race: &Race<'_>,
     gate: &G,
     wires: &mut [W],
+    trace: &mut Trace,
 ) -> Result<Raced, Memory>
     requires pass { IsOf table.now pass.old }
     requires fresh { IsFresh pass.old }
@@ -182,11 +198,14 @@ pub(crate) fn race_all<R: Threads + Wait + Sync, W: Wire + Send, G: Gate + Sync>
     ensures begun { (sent : List (List Message)) × WentEach W.sight sent wires.old wires.new
         × AreBegun race.now.widths race.now.queries.now race.now.master race.now.crew.rounds pass.new.sight.order 0 sent
         × (length sent ≤ race.now.crew.askers) }
+    ensures seen { IfOk result (λ r. NotesAll race.now.widths (all_rounds (setting_of race.now)) r.asks trace.old trace.new) }
+    ensures seen_first { OnErr result (NotesFirst race.now.widths (all_rounds (setting_of race.now)) trace.old trace.new) }
 {
     let mut jobs = split_jobs(alloc, table, pass, race.rows.len(), race.crew.writers)?;
     let mut mine = table.split_pass(pass, 0);
-    let asks = run_both(rt, alloc, table, race, gate, &mut jobs, &mut mine, wires);
+    let heard = run_both(rt, alloc, table, race, gate, &mut jobs, &mut mine, wires);
     table.gather(pass, mine);
+    let asks = noted(heard, trace);
     let gathered = gather_all(
         alloc,
         table,

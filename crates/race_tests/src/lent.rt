@@ -11,6 +11,7 @@ use std::process::Abort;
 use std::sync::Wait;
 use std::thread::Threads;
 use table_schema::Aggregate;
+use visit_trace::Trace;
 use waldo_table::{Pass, Table};
 use wire_line::StraightWire;
 
@@ -57,6 +58,7 @@ fn ask<R: Abort + Threads + Wait + Sync>(
         0,
         &master(),
         &mut wire,
+        &mut Trace::new(alloc),
         2,
         &OpenGate,
     )

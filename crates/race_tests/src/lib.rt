@@ -7,3 +7,5 @@ mod calls;
 mod lent;
 #[cfg(test)]
 mod races;
+#[cfg(test)]
+mod seen;

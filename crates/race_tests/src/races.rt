@@ -10,13 +10,15 @@ use std::process::Abort;
 use std::sync::Wait;
 use std::thread::Threads;
 use table_schema::Aggregate;
+use visit_trace::Trace;
 use wire_line::{RecordWire, Shift, ShiftWire, Shifts, StraightWire, Wire};
 
 // Two rounds over six rows, of which those with bucket 3 have the values 1, 4 and 16.
-fn run<R: Abort + Threads + Wait + Sync, W: Wire + Send>(
+pub fn run<R: Abort + Threads + Wait + Sync, W: Wire + Send>(
     rt: &R,
     alloc: Global,
     wires: &mut Vec<W>,
+    trace: &mut Trace,
 ) -> Result<Ran, Memory>
     requires { 2 ≤ length wires.old.items }
     ensures { length wires.new.items ≡ length wires.old.items }
@@ -47,7 +49,7 @@ fn run<R: Abort + Threads + Wait + Sync, W: Wire + Send>(
         master: master(),
         crew,
     };
-    race(rt, alloc, &setting, &OpenGate, wires)
+    race(rt, alloc, &setting, &OpenGate, wires, trace)
 }
 
 // The rows at places 0, 1 and so on, each as a bit; 0 where a line is none of the place that it stands at.
@@ -98,7 +100,7 @@ fn a_race(rt: HostRuntime) -> Result<(), Memory> {
     for _ in 0..10 {
         let mut wires = record_wires(alloc)?;
         assert_eq!(rt; wires.len(), 3);
-        let ran = run(&rt, alloc, &mut wires)?;
+        let ran = run(&rt, alloc, &mut wires, &mut Trace::new(alloc))?;
         let carried = [
             wires[0].messages().len(),
             wires[1].messages().len(),
@@ -138,7 +140,7 @@ fn a_race_with_an_altered_message(rt: HostRuntime) -> Result<(), Memory> {
     let alloc = rt.alloc();
     let mut wires = shift_wires(alloc)?;
     assert_eq!(rt; wires.len(), 2);
-    let ran = run(&rt, alloc, &mut wires)?;
+    let ran = run(&rt, alloc, &mut wires, &mut Trace::new(alloc))?;
     let ends = b"end 0 rows 6 altered total 4 weighted 11631277917209493303\nend 1 rows 6 sum 21\n";
     let outcome = outcome_of(alloc, &ran, b"rows 6\nplace 0 row ", ends)?;
     assert_eq!(rt; (outcome, ran.altered), ((15, 0b11_1111, true, true), true));

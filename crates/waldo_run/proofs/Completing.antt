@@ -26,6 +26,7 @@ use Rattle.waldo_words.specs.declared.command.Command.TheVariants as commands
 use Rattle.waldo_words.specs.declared.faults.WordFault.{WordFault}
 use Rattle.waldo_words.specs.declared.shifts.ShiftWord.{ShiftWord}
 use Rattle.wire_line.specs.declared.message.Message.{Message}
+use Rattle.visit_trace.specs.Seen.{AllSeen}
 use Rattle.waldo_run.specs.Complete.{EndsChecked, EndsPlainly, EndsRaced, EndsWith, GivesRows, HaveCases, IsAccepted, StepsHaveCases}
 use Rattle.waldo_run.specs.Races.{RacedFrom, RacedIn, RacedOver, Races, crew_of}
 use Rattle.waldo_run.specs.Replies.{Answering, Reply, checked_answer, ended, plain_answer, plain_in, range_line, reply_over, reply_to, rows_reply, single}
@@ -176,26 +177,26 @@ completes order said source sink carried unaltered status sure dry still command
 
 -- ---- a race
 
-raced_in : (c : Common) (crew : Crew) (rows : List Row) (bytes : List ℕ) (reading : Reading) (sent : List (List Message)) (reply : Reply) → reading ≡ Whole bytes → rows_in c bytes ≡ Ok rows → RacedFrom c crew reading sent reply
-    → RacedOver c crew rows sent reply
-raced_in c crew rows bytes reading sent reply is gives raced =
-    subst (λ r. RacedIn c crew r sent reply) gives (subst (λ (r : Reading). RacedFrom c crew r sent reply) is raced)
+raced_in : (c : Common) (crew : Crew) (rows : List Row) (bytes : List ℕ) (reading : Reading) (sent : List (List Message)) (grew : AllSeen → Type 0) (reply : Reply) → reading ≡ Whole bytes → rows_in c bytes ≡ Ok rows
+    → RacedFrom c crew reading sent grew reply → RacedOver c crew rows sent grew reply
+raced_in c crew rows bytes reading sent grew reply is gives raced =
+    subst (λ r. RacedIn c crew r sent grew reply) gives (subst (λ (r : Reading). RacedFrom c crew r sent grew reply) is raced)
 
-some_reading : (c : Common) (crew : Crew) (reading : Reading) (sent : List (List Message)) (reply : Reply) → RacedFrom c crew reading sent reply → reading ≢ Untouched
-some_reading c crew Untouched sent reply raced e = raced
-some_reading c crew (Whole bytes) sent reply raced e = cc
-some_reading c crew Long sent reply raced e = cc
-some_reading c crew Broken sent reply raced e = cc
+some_reading : (c : Common) (crew : Crew) (reading : Reading) (sent : List (List Message)) (grew : AllSeen → Type 0) (reply : Reply) → RacedFrom c crew reading sent grew reply → reading ≢ Untouched
+some_reading c crew Untouched sent grew reply raced e = raced
+some_reading c crew (Whole bytes) sent grew reply raced e = cc
+some_reading c crew Long sent grew reply raced e = cc
+some_reading c crew Broken sent grew reply raced e = cc
 
-race_by : (c : Common) (writers askers rounds : ℕ) (rows : List Row) (source sink : Change) (carried : List (List Message) → Type 0) (status : ℕ) (input : Option (List ℕ)) → source.old ≡ input
+race_by : (c : Common) (writers askers rounds : ℕ) (rows : List Row) (source sink : Change) (carried : List (List Message) → Type 0) (grew : AllSeen → Type 0) (status : ℕ) (input : Option (List ℕ)) → source.old ≡ input
     → (Rose source.before source.now → ⊥) → (Rose sink.before sink.now → ⊥) → status ≢ 7 → GivesRows c input rows
-    → Races (Ok (commands.Race c writers askers rounds)) source carried sink status → EndsRaced c (crew_of c writers askers rounds) rows carried sink status
-race_by c writers askers rounds rows source sink carried status None e sure dry ne gives r = absurd gives
-race_by c writers askers rounds rows source sink carried status (Some bytes) e sure dry ne gives r =
+    → Races (Ok (commands.Race c writers askers rounds)) source carried grew sink status → EndsRaced c (crew_of c writers askers rounds) rows carried grew sink status
+race_by c writers askers rounds rows source sink carried grew status None e sure dry ne gives r = absurd gives
+race_by c writers askers rounds rows source sink carried grew status (Some bytes) e sure dry ne gives r =
     let crew = crew_of c writers askers rounds in
     let put = whole_put r.reply sink status dry r.puts in
-    let over = raced_in c crew rows bytes r.replies.reading r.replies.sent r.reply
-    (whole_met r.replies.reading source bytes (some_reading c crew r.replies.reading r.replies.sent r.reply r.replies.raced) r.replies.reads sure e gives.0) gives.1 r.replies.raced in
+    let over = raced_in c crew rows bytes r.replies.reading r.replies.sent grew r.reply
+    (whole_met r.replies.reading source bytes (some_reading c crew r.replies.reading r.replies.sent grew r.reply r.replies.raced) r.replies.reads sure e gives.0) gives.1 r.replies.raced in
     let own : status ≡ status_by (list_any is_altered r.reply.report) = put.0 ∙ over.status in
     record {
       sent = r.replies.sent;
@@ -206,9 +207,9 @@ race_by c writers askers rounds rows source sink carried status (Some bytes) e s
       text = put.1;
     }
 
-pub race_completes : (said : Result Command WordFault) (source sink : Change) (carried : List (List Message) → Type 0) (status : ℕ)
+pub race_completes : (said : Result Command WordFault) (source sink : Change) (carried : List (List Message) → Type 0) (grew : AllSeen → Type 0) (status : ℕ)
     → (Rose source.before source.now → ⊥) → (Rose sink.before sink.now → ⊥) → status ≢ 7
-    → (c : Common) (writers askers rounds : ℕ) (rows : List Row) → said ≡ Ok (commands.Race c writers askers rounds) → GivesRows c source.old rows → Races said source carried sink status
-    → EndsRaced c (crew_of c writers askers rounds) rows carried sink status
-race_completes said source sink carried status sure dry ne c writers askers rounds rows is gives r =
-    race_by c writers askers rounds rows source sink carried status source.old refl sure dry ne gives (subst (λ s. Races s source carried sink status) is r)
+    → (c : Common) (writers askers rounds : ℕ) (rows : List Row) → said ≡ Ok (commands.Race c writers askers rounds) → GivesRows c source.old rows → Races said source carried grew sink status
+    → EndsRaced c (crew_of c writers askers rounds) rows carried grew sink status
+race_completes said source sink carried grew status sure dry ne c writers askers rounds rows is gives r =
+    race_by c writers askers rounds rows source sink carried grew status source.old refl sure dry ne gives (subst (λ s. Races s source carried grew sink status) is r)

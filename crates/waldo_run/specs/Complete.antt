@@ -12,6 +12,7 @@ use Rattle.schedule_play.specs.Tasks.{Task}
 use Rattle.schedule_play.specs.declared.style.Style.{Style}
 use Rattle.schedule_play.specs.declared.style.Style.TheVariants.{Queries, Rounds}
 use Rattle.table_schema.specs.declared.rows.Row.{Row}
+use Rattle.visit_trace.specs.Seen.{AllSeen}
 use Rattle.waldo_words.specs.declared.command.Common.{Common}
 use Rattle.waldo_words.specs.declared.command.Command.{Command}
 use Rattle.wire_line.specs.declared.message.Message.{Message}
@@ -70,12 +71,12 @@ Completes command rows carried unaltered sink status =
     (status ≡ 6) ⊎ EndsWith (shifts_of (Ok command)) command rows carried unaltered sink status
 
 -- a race over these rows came to an end: status 0, and the whole text of a report that such a race may have with the messages that were
--- carried
+-- carried; and the trace grew by what the servers see of that report
 pub record EndsRaced (common : Common) (crew : Crew) (rows : List Row) (carried : List (List Message) → Type 0)
-    (sink : Change) (status : ℕ) : Type 0 where
+    (grew : AllSeen → Type 0) (sink : Change) (status : ℕ) : Type 0 where
   pub sent : List (List Message)
   pub went : carried sent
   pub reply : Reply
-  pub raced : RacedOver common crew rows sent reply
+  pub raced : RacedOver common crew rows sent grew reply
   pub done : status ≡ 0
   pub text : Appends sink.old sink.new (text_of reply.report)

@@ -1,11 +1,12 @@
 //! The top call: `race`, and every other command.
 ghost use Rattle.std.specs.Prelude.{◌≡◌, ◌≢◌, ◌⊎◌, ℕ, true, false, List, map, string_bytes, Ok, IfSome, IsErr, length};
 ghost use Rattle.table_schema.specs.declared.rows.Row.{Row};
+ghost use Rattle.visit_trace.specs.Seen.{Grew};
 ghost use Rattle.wire_line.specs.Lists.{SomeRose};
 ghost use Rattle.waldo_run.specs.Grown.{Traces};
 ghost use Rattle.waldo_run.specs.Complete.{Completes, EndsRaced, GivesRows, IsAccepted};
 ghost use Rattle.waldo_run.specs.Headline.{AsksOver, plain_answers};
-ghost use Rattle.waldo_run.specs.Races.{RaceCarries, Races, begin_race, command_at, crew_of};
+ghost use Rattle.waldo_run.specs.Races.{RaceCarries, Races, SeesUpTo, begin_race, command_at, crew_of};
 ghost use Rattle.waldo_run.specs.Run.{Breaks, HasSchedule, IsUnchanged, Puts, ReadsNothing, Refuses, Runs, plain_reply};
 ghost use Rattle.waldo_run.specs.Tasks.{common_in};
 ghost use Rattle.waldo_words.specs.declared.command.Command.{Command};
@@ -72,10 +73,11 @@ pub fn run<R: Threads + Wait + Sync, S: Source, K: Sink, W: Wire + Send, G: Gate
         (UnalteredBy W.sight (command_at (map string_bytes words.now)) wires.old.items wires.new.items)
         (change K.sight sink.old sink.new) result }
     // A race: the source was met in one of its ways, each asker's messages went over its wire, and a report was put that a race over the
-    // input's rows may come to with these messages; or the line of what was refused was put, and the wires are as they were.
+    // input's rows may come to with these messages; or the line of what was refused was put, and the wires are as they were. The trace grew
+    // by what the servers see of the answers in that report, each over the number of rows that its line says, in the order of the lines.
     ensures raced { begin_race (map string_bytes words.now) ≡ true → result ≢ 6
         → Races (command_at (map string_bytes words.now)) (change S.sight source.old source.new)
-        (CarriedEach W.sight wires.old.items wires.new.items) (change K.sight sink.old sink.new) result }
+        (CarriedEach W.sight wires.old.items wires.new.items) (Grew trace.old trace.new) (change K.sight sink.old sink.new) result }
     // Nothing else can come of an accepted race over an accepted input, where nothing had a fault: status 6, or status 0 and a report
     // that such a race may have.
     ensures completed { begin_race (map string_bytes words.now) ≡ true
@@ -85,7 +87,7 @@ pub fn run<R: Threads + Wait + Sync, S: Source, K: Sink, W: Wire + Send, G: Gate
         → command_at (map string_bytes words.now) ≡ Ok (commands.Race common writers askers rounds)
         → GivesRows common (S.sight.bytes source.old) rows
         → (result ≡ 6) ⊎ EndsRaced common (crew_of common writers askers rounds) rows
-        (CarriedEach W.sight wires.old.items wires.new.items) (change K.sight sink.old sink.new) result }
+        (CarriedEach W.sight wires.old.items wires.new.items) (Grew trace.old trace.new) (change K.sight sink.old sink.new) result }
     // And whatever the status is, out of memory too, each wire carried the messages of its asker's first rounds, and perhaps the first
     // ones of the next.
     ensures carried { begin_race (map string_bytes words.now) ≡ true
@@ -103,9 +105,13 @@ pub fn run<R: Threads + Wait + Sync, S: Source, K: Sink, W: Wire + Send, G: Gate
     // Every command but `race`: the trace grew as `run_still` says.
     ensures trace { begin_race (map string_bytes words.now) ≡ false
         → Traces (command_at (map string_bytes words.now)) (change S.sight source.old source.new) trace.old trace.new result }
+    // A race: `raced` says that it grew by what the servers see of the answers in the report. Out of memory it stays, or grew by a prefix of
+    // what they see of the race's first queries.
+    ensures trace_first { begin_race (map string_bytes words.now) ≡ true → result ≡ 6
+        → SeesUpTo (command_at (map string_bytes words.now)) trace.old trace.new }
 {
     if begin_race(words) {
-        run_race(rt, alloc, words, source, sink, wires, gate)
+        run_race(rt, alloc, words, source, sink, wires, trace, gate)
     } else {
         run_still(rt, alloc, words, source, sink, wires, trace)
     }

@@ -1,6 +1,7 @@
 use Rattle.std.proofs.Common.{◌≡◌}
 use Rattle.waldo_table.specs.Tables.{Grows, IsCovered, IsOf}
 use Rattle.race_play.specs.Questions.{rounds_of}
+use Rattle.race_play.specs.Seen.{NotesAll}
 use Rattle.race_play.proofs.Answering.{SoFar}
 use Rattle.race_play.proofs.ask.ask_rounds.Given as goal
 
@@ -10,5 +11,6 @@ invariant-loop-round g l = record {
   grows : Grows l.fn.pass l.pass;
   own : l.pass.sight ≡ record l.fn.pass.sight { order = l.pass.sight.order };
   covered : IsCovered l.pass;
+  seen : NotesAll l.table.widths (rounds_of l.queries l.master l.asker l.round) l.said l.fn.trace l.trace;
   asked : SoFar g.W.Wire.sight l.table.widths 0 l.pass (rounds_of l.queries l.master l.asker l.round) l.said l.fn.wire l.wire;
 }

@@ -1,13 +1,15 @@
-use Rattle.std.proofs.Common.{◌∙◌, refl, subst, length, [], arith}
+use Rattle.std.proofs.Common.{◌∙◌, ◌++◌, refl, subst, length, [], arith}
 use Rattle.std.proofs.lemmas.Result.{IfOk-weaker}
 use Rattle.table_schema.specs.declared.widths.Widths.{Widths}
 use Rattle.wire_line.specs.Messages.{Went}
 use Rattle.race_play.specs.Askers.{more_over_first}
 use Rattle.race_play.specs.Begun.{Began}
 use Rattle.race_play.specs.Questions.{Gave, ends_of}
+use Rattle.race_play.specs.Seen.{NotesAll, NotesFirst, all_questions, all_rounds}
 use Rattle.race_play.specs.Settings.{setting_of}
 use Rattle.race_play.proofs.Breaking.{rounds_alone, rounds_behind, went_back}
 use Rattle.race_play.proofs.Playing.{all_honest, if_both, reports_of, reports_quiet, went_lent}
+use Rattle.race_play.proofs.Seeing.{first_all, first_behind, first_more, first_none, if_err, notes_then, report_grew}
 use Rattle.race_play.proofs.play.race.Goals as goal
 
 pub returns-clause-reports : goal.returns-clause-reports
@@ -69,3 +71,42 @@ returns-clause-carried g c =
 
 pub returns-in_default-clause-carried : goal.returns-in_default-clause-carried
 returns-in_default-clause-carried g c = ([], refl, rounds_alone (setting_of c.args.race.now) [] [] tt (omega arith))
+
+pub returns-clause-trace : goal.returns-clause-trace
+returns-clause-trace g c =
+    let race = c.args.race.now in
+    let rounds = all_rounds (setting_of race) in
+    let last = ends_of race.queries.now race.master (length race.queries.now) in
+    let ended : NotesAll race.widths last c.in_ok-ends.ends c.race_all.new.trace c.ask_ends.new.trace =
+    subst (λ (w : Widths). NotesAll w last c.in_ok-ends.ends c.race_all.new.trace c.ask_ends.new.trace) c.in-Ok.ensures.table.0 c.in_ok-ends.ensures.seen in
+    let all = notes_then race.widths rounds last c.in_ok-raced.raced.asks c.in_ok-ends.ends c.args.trace.now c.race_all.new.trace c.ask_ends.new.trace c.in_ok-raced.ensures.seen ended in
+    let raced = c.in_ok-raced.raced in
+    IfOk-weaker c.report_of.result _ _
+    (λ r text. report_grew (setting_of race) raced.order.items raced.backs.items raced.asks c.in_ok-ends.ends r.report c.args.trace.now c.ask_ends.new.trace all c.in_ok-raced.ensures.raced.2.backs text)
+    c.report_of.ensures.text
+
+pub returns-clause-trace_first : goal.returns-clause-trace_first
+returns-clause-trace_first g c =
+    let race = c.args.race.now in
+    let rounds = all_rounds (setting_of race) in
+    let last = ends_of race.queries.now race.master (length race.queries.now) in
+    let ended : NotesAll race.widths last c.in_ok-ends.ends c.race_all.new.trace c.ask_ends.new.trace =
+    subst (λ (w : Widths). NotesAll w last c.in_ok-ends.ends c.race_all.new.trace c.ask_ends.new.trace) c.in-Ok.ensures.table.0 c.in_ok-ends.ensures.seen in
+    let all = notes_then race.widths rounds last c.in_ok-raced.raced.asks c.in_ok-ends.ends c.args.trace.now c.race_all.new.trace c.ask_ends.new.trace c.in_ok-raced.ensures.seen ended in
+    if_err _ _ (first_all race.widths (all_questions (setting_of race)) (c.in_ok-raced.raced.asks ++ c.in_ok-ends.ends) c.args.trace.now c.ask_ends.new.trace all)
+
+pub returns-in_err-raced-clause-trace_first : goal.returns-in_err-raced-clause-trace_first
+returns-in_err-raced-clause-trace_first g c =
+    let race = c.args.race.now in
+    if_err _ _ (first_more race.widths (all_rounds (setting_of race)) (ends_of race.queries.now race.master (length race.queries.now)) c.args.trace.now c.race_all.new.trace c.in_err-raced.ensures.seen_first)
+
+pub returns-in_err-ends-clause-trace_first : goal.returns-in_err-ends-clause-trace_first
+returns-in_err-ends-clause-trace_first g c =
+    let race = c.args.race.now in
+    let last = ends_of race.queries.now race.master (length race.queries.now) in
+    if_err _ _ (first_behind race.widths (all_rounds (setting_of race)) last c.in_ok-raced.raced.asks c.args.trace.now c.race_all.new.trace c.ask_ends.new.trace c.in_ok-raced.ensures.seen
+    (subst (λ (w : Widths). NotesFirst w last c.race_all.new.trace c.ask_ends.new.trace) c.in-Ok.ensures.table.0 c.in_err-ends.ensures.seen))
+
+pub returns-in_default-clause-trace_first : goal.returns-in_default-clause-trace_first
+returns-in_default-clause-trace_first g c =
+    first_none c.args.race.now.widths (all_questions (setting_of c.args.race.now)) c.args.trace.now

@@ -61,5 +61,5 @@ returns-else-begin_race-clause-complete g c = λ other sure dry still.
 
 pub returns-then-begin_race-clause-completed : goal.returns-then-begin_race-clause-completed
 returns-then-begin_race-clause-completed g c = λ is sure dry still common writers askers rounds rows said gives.
-    or_six c.run_race.result _ (λ done. race_completes _ _ _ _ _ sure dry (λ seven. still (c.run_race.ensures.altered seven)) common writers askers rounds rows
+    or_six c.run_race.result _ (λ done. race_completes _ _ _ _ _ _ sure dry (λ seven. still (c.run_race.ensures.altered seven)) common writers askers rounds rows
     (by_race (λ command. command ≡ Ok (commands.Race common writers askers rounds)) (map string_bytes c.args.words.now) is said) gives (c.run_race.ensures.raced done))
