@@ -44,7 +44,10 @@ fn push_lines(report: &mut Report, lines: Vec<Line>) -> Result<(), Memory>
 fn is_altered(line: &Line) -> bool
     ensures { result ≡ is_altered line.now }
 {
-    matches!(line, Line::Altered { .. } | Line::TreeAltered { .. } | Line::GroupAltered { .. })
+    matches!(
+        line,
+        Line::Altered { .. } | Line::TreeAltered { .. } | Line::GroupAltered { .. }
+    )
 }
 
 // Whether the check refused a pair.

@@ -302,23 +302,23 @@ two_few = (omega arith, omega arith)
 
 -- a command that asks no query by a column has none, and one that asks them has no other
 none_by_column : (command : CommandName) (columns : List Column) (gs : List GroupQuery) → asks_groups command ≡ false → All (IsAsked command columns) gs → gs ≡ []
-none_by_column command columns [] no h = refl
-none_by_column command columns (g ∷ gs) no h = let asked = (All-head (IsAsked command columns) g gs h).asked in absurd cc
+none_by_column command columns [] apart h = refl
+none_by_column command columns (g ∷ gs) apart h = let asked = (All-head (IsAsked command columns) g gs h).asked in absurd cc
 
 none_alone : (qs : List Query) → All (λ (q : Query). may_ask name.Groups q ≡ true) qs → qs ≡ []
 none_alone [] h = refl
 none_alone (q ∷ qs) h = let asked = All-head (λ (q : Query). may_ask name.Groups q ≡ true) q qs h in absurd cc
 
-most_queries : (command : CommandName) → most_times option.Query command ≤ 16
+pub most_queries : (command : CommandName) → most_times option.Query command ≤ 16
 most_queries name.Tamper = omega arith
 most_queries name.Tree = omega arith
 most_queries _ = omega arith
 
 common_legal : (command : CommandName) (columns : List Column) (found : Found) → IsFound command columns found
     → Fits (bits_in columns) (largest_in (bits_in columns)) → 0 < times_found found option.Query → asks_groups command ≡ false → IsCommon (common_of columns found)
-common_legal command columns found h room some no = record {
+common_legal command columns found h room some apart = record {
   fits = unwrapped (Fits (bits_in columns)) found.capacity (largest_in (bits_in columns)) h.capacity room;
-  some = let none = ap length (none_by_column command columns found.groups no h.groups) in omega (arith, some, none);
+  some = let none = ap length (none_by_column command columns found.groups apart h.groups) in omega (arith, some, none);
   few = omega (arith, h.queries, most_queries command);
   places = h.places;
   suits = h.suits;
@@ -383,7 +383,7 @@ groups_legal columns found h room some =
       alone = none;
       some = omega (arith, some, empty);
       few = omega (arith, h.queries);
-      groups = legal_asked columns found.groups h.groups;
+      each = legal_asked columns found.groups h.groups;
       workers = unwrapped IsFew found.workers 1 h.workers one_few;
     }
 

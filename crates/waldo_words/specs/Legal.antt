@@ -103,7 +103,7 @@ pub record IsGroups (c : Common) (groups : List GroupQuery) : Type 0 where
   pub alone : c.queries ≡ []
   pub some : 1 ≤ length groups
   pub few : length groups ≤ 16
-  pub groups : All (IsGroup c.schema) groups
+  pub each : All (IsGroup c.schema) groups
   pub workers : IsFew c.workers
 
 -- what the layers above may rely on

@@ -8,7 +8,7 @@ ghost use Rattle.waldo_words.specs.Words.{finished, made, ranged, replayed, tamp
 use crate::command::{Command, Common};
 use crate::faults::WordFault;
 use crate::found::Found;
-use crate::names::{CommandName, OptionName};
+use crate::names::CommandName;
 use crate::progress::split;
 use crate::schedule::Schedule;
 use crate::seeds::plain_seed;
@@ -29,9 +29,6 @@ pub(crate) fn finish(
     // So the capacity is one that fits also where none is given.
     ensures fits { Fits (bits_in schema) (largest_in (bits_in schema)) }
 {
-    if found.times(OptionName::Query) == 0 {
-        return Err(WordFault::missing(Name::Query));
-    }
     let Found {
         queries,
         groups,
@@ -49,6 +46,9 @@ pub(crate) fn finish(
         to,
     } = found;
     let capacity = capacity.unwrap_or(schema.widths().largest());
+    if queries.is_empty() && groups.is_empty() {
+        return Err(WordFault::missing(Name::Query));
+    }
     let common = Common {
         schema,
         capacity,

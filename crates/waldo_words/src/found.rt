@@ -1,5 +1,5 @@
 //! What the options have said so far.
-ghost use Rattle.std.specs.Prelude.{◌≡◌, IfOk};
+ghost use Rattle.std.specs.Prelude.{◌≡◌, ◌+◌, ◌≤◌, IfOk, length};
 ghost use Rattle.waldo_words.specs.Options.{count_of, nothing_found, times_found, with_value};
 
 use crate::groups::Groups;
@@ -65,6 +65,7 @@ impl Found {
 
     /// How often an option has stood.
     pub fn times(&self, option: OptionName) -> usize
+        requires { length self.now.queries + length self.now.groups ≤ 16 }
         ensures { result ≡ times_found self.now option }
     {
         match option {
