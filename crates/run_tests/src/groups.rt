@@ -153,7 +153,8 @@ fn messages_of_a_sum(rt: HostRuntime) -> Result<(), Fail> {
     Ok(())
 }
 
-// In each run a server visits one chunk of the predicate's column, one of the values, and one of the buckets' column.
+// In each run a server visits one chunk of the predicate's column, one of the values, and one of the buckets' column; it sends and receives
+// bits and products, and sends its opening.
 #[test]
 fn visits_of_a_sum(rt: HostRuntime) -> Result<(), Fail> {
     let trace = answers(&rt, rt.alloc(), SUM, INPUT, SUM_TEXT)
@@ -162,7 +163,7 @@ fn visits_of_a_sum(rt: HostRuntime) -> Result<(), Fail> {
     assert_eq!(&rt; trace.visits(0).take(7).count(), 6);
     assert_eq!(&rt; trace.visits(1).take(7).count(), 6);
     assert_eq!(&rt; trace.visits(2).take(7).count(), 6);
-    assert_eq!(&rt; trace.lengths(2).len(), 13);
+    assert_eq!(&rt; trace.lengths(2).len(), 11);
     Ok(())
 }
 
