@@ -50,8 +50,8 @@ fn is_altered(line: &Line) -> bool
     )
 }
 
-// Whether the check refused a pair.
-fn any_altered(lines: &[Line]) -> bool
+/// Whether the check refused a pair.
+pub fn any_altered(lines: &[Line]) -> bool
     ensures { result ≡ list_any is_altered lines.now }
 {
     for line in lines {
