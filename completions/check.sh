@@ -69,6 +69,17 @@ done <<'LINES'
 ./waldo tre|tree
 ./waldo tree host:2 --|--capacity,--from,--query,--seed,--to,--workers
 ./waldo tree host:2 --query "count host=3" --from 1 --|--capacity,--seed,--to,--workers
+./waldo gro|groups
+./waldo groups host:2 --|--capacity,--query,--seed,--workers
+./waldo groups host:2 --query "count host=3 by host" --q|--query
+./waldo groups host:2,load:4@0/10 --query "sum l|sum load<=,sum load=
+./waldo groups host:2,load:4@0/10 --query "sum host=3 |sum host=3 by host,sum host=3 by load,sum host=3 load<=,sum host=3 load=
+./waldo groups host:2,load:4@0/10 --query "sum host=3 b|sum host=3 by host,sum host=3 by load
+./waldo groups host:2,load:4@0/10 --query "sum host=3 by |sum host=3 by host,sum host=3 by load
+./waldo groups host:2,load:4@0/10 --query "sum host=3 by l|sum host=3 by load
+./waldo groups host:2,load:4@0/10 --query "sum host=3 by load |
+./waldo groups a:1,b:1,c:1,d:1 --query "sum a=1 b=1 c=1 d=1 |sum a=1 b=1 c=1 d=1 by a,sum a=1 b=1 c=1 d=1 by b,sum a=1 b=1 c=1 d=1 by c,sum a=1 b=1 c=1 d=1 by d
+./waldo ask host:2,load:4@0/10 --query "sum host=3 b|
 ./waldo ask host:2,load:4@0/10 --query "|count host<=,count host=,count load<=,count load=,sum host<=,sum host=,sum load<=,sum load=
 ./waldo ask host:2,load:4@0/10 --query "s|sum host<=,sum host=,sum load<=,sum load=
 ./waldo ask host:2,load:4@0/10 --query "count l|count load<=,count load=
@@ -109,6 +120,8 @@ if command -v zsh >/dev/null && zsh -fc 'zmodload zsh/zpty' 2>/dev/null; then
 ./waldo race host:2 --rounds |1,10,11,12,13,14,15,16,2,3,4,5,6,7,8,9
 ./waldo ask host:2,load:4@0/10 --query "|count,sum
 ./waldo ask host:2,load:4@0/10 --query "count host=3 |load<=,load=
+./waldo groups host:2,load:4@0/10 --query "count host=3 |by,load<=,load=
+./waldo groups host:2,load:4@0/10 --query "count host=3 by |host,load
 ./waldo replay host:2 --schedule "d0 p|p0.0,p0.1,p0.2
 LINES
 else

@@ -50,9 +50,10 @@ _waldo_options() {
   done
 }
 
-# The texts that a query, as far as it is typed, can go on with: a column that has no predicate yet, with `=` and `<=`.
+# The texts that a query, as far as it is typed, can go on with: a column that has no predicate yet, with `=` and `<=`; in one of `groups`
+# that has a predicate also ` by ` and each column, with which it ends.
 _waldo_queries() {
-  local schema=$1 text=$2 begun beginnings piece='' pieces column columns
+  local command=$1 schema=$2 text=$3 begun beginnings piece='' pieces column columns
   if [[ $text == *' '* ]]; then
     beginnings=("${text% *}")
     piece=${text##* }
@@ -62,10 +63,27 @@ _waldo_queries() {
   IFS=, read -ra columns <<<"$schema"
   for begun in "${beginnings[@]}"; do
     read -ra pieces <<<"$begun"
-    [[ ${pieces[0]-} == @(count|sum) && ${#pieces[@]} -lt 5 && $piece != *[=\<]* ]] || continue
+    [[ ${pieces[0]-} == @(count|sum) && $piece != *[=\<]* && " $begun " != *' by '?*' ' ]] || continue
+    if [[ $command == groups && ${#pieces[@]} -gt 1 ]]; then
+      _waldo_by
+      [[ ${pieces[-1]} != by ]] || continue
+    fi
+    ((${#pieces[@]} < 5)) || continue
     for column in "${columns[@]%%:*}"; do
       [[ $column == "$piece"* && $begun != *" $column"[=\<]* ]] && printf '%s\n' "$begun $column=" "$begun $column<="
     done
+  done
+}
+
+# Where `by` may come, or has come, the columns behind it.
+_waldo_by() {
+  local column
+  for column in "${columns[@]%%:*}"; do
+    if [[ ${pieces[-1]} == by ]]; then
+      [[ $column != "$piece"* ]] || printf '%s\n' "$begun $column"
+    elif [[ by == "$piece"* ]]; then
+      printf '%s\n' "$begun by $column"
+    fi
   done
 }
 
@@ -106,7 +124,7 @@ _waldo() {
     # that the shell doesn't close the quote behind them.
     [[ $before == --query ]] && value=$current || value=${current#--query=}
     [[ -n $_waldo_quote ]] || open='"'
-    mapfile -t COMPREPLY < <(_waldo_queries "${words[2]}" "$value" | sed "s/^/$open/")
+    mapfile -t COMPREPLY < <(_waldo_queries "${words[1]}" "${words[2]}" "$value" | sed "s/^/$open/")
     compopt -o nospace 2>/dev/null
   elif [[ $before == --schedule || $current == --schedule=* ]]; then
     [[ $before == --schedule ]] && value=$current || value=${current#--schedule=}

@@ -399,7 +399,8 @@ check_no_build() {
   local words
   rm -rf -- "$tree/built" "$room/proved"
   for words in help -h --help --version "help commands" "help schemas" "help queries" "help rows" "help schedules" "help messages" \
-    "help schema" "help plot" "ask --help" "replay -h" "race --help" "race help" "make help" "help ask" "help race" "help trace"; do
+    "help schema" "help plot" "ask --help" "replay -h" "race --help" "race help" "make help" "help ask" "help race" "help trace" \
+    "help groups" "groups --help"; do
     call $words
     is "$words has text, status 0 and no line" "0::yes" "$status:$err:$([ ${#out} -gt 40 ] && echo yes)"
   done

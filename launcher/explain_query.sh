@@ -18,6 +18,20 @@ query_fault() {
   fi
 }
 
+# Queries by the buckets of a column: the last piece is its name, and the one before it is `by`.
+group_fault() {
+  local text=$1 column=${1##* } front=${1% *} numbers
+  if [[ " $text" != *' by '* || ${front##* } != by ]]; then
+    numbers=$(numbers_of 0)
+    printf 'groups asks by the buckets of a column, so by and its name come last, as sum '
+    printf '%s<=%s by %s' "${column_names[0]}" "${numbers#* to }" "${column_names[0]}"
+  elif [[ " ${column_names[*]} " != *" $column "* ]]; then
+    printf '%s is no column of this schema%s' "$(quoted "$column")" "$(nearest_or "$column" "${column_names[@]}")"
+  else
+    query_fault "${text% by *}"
+  fi
+}
+
 # Prints the fault of a predicate, and answers whether it has one.
 predicate_fault() {
   local piece=$1 column=${1%%[<=]*} index known=-1 numbers number
@@ -66,6 +80,7 @@ form_hint() {
     *-*) printf ': an interval is written with two dots, and numbers have no sign' ;;
     *'<'[!=]*) printf ': there is no < alone' ;;
     *=*.*) [[ $1 == *..* ]] || printf ': numbers are whole' ;;
+    by | BY) printf ': groups alone asks by the buckets of a column' ;;
     and | AND | or | OR | '&&' | '||') printf ': conditions follow each other with a space, and all have to hold' ;;
   esac
 }

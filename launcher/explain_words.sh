@@ -50,7 +50,7 @@ explain_option() {
   elif ((earlier > 0)) && ! may_repeat "$command" "$option"; then
     tell "$command" "word $index is a second $option, which may be given only once"
   elif [[ $word != *=* ]]; then
-    tell "$command" "word $index is $option, the last word, and its value is missing: it takes ${taken[$option]}"
+    tell "$command" "word $index is $option, the last word, and its value is missing: it takes ${taken[$command $option]}"
   else
     explain_value "$option" "${word#*=}"
   fi
@@ -86,13 +86,13 @@ explain_value() { # option, value
   start+=" $(quoted "$value")"
   if [[ $value == -* && ${words[index]} != --*=* ]]; then
     start+=" where $option needs its value, and a value in a word of its own may not begin with a dash"
-    tell "${words[0]}" "$start; it takes ${taken[$option]}"
+    tell "${words[0]}" "$start; it takes ${taken[${words[0]} $option]}"
     return
   fi
   case $option in
     --query)
       . "$home/launcher/explain_query.sh"
-      why=$(query_fault "$value")
+      if [ "${words[0]}" = groups ]; then why=$(group_fault "$value"); else why=$(query_fault "$value"); fi
       [ "${words[0]}" != tree ] || why=${why:-tree asks a count with one predicate}
       tell queries "$start: ${why:-it is no query}"
       ;;
@@ -151,13 +151,13 @@ number_fault() { # option, value
   else
     printf 'that is out of range'
   fi
-  printf '; %s takes %s' "$1" "${taken[$1]}"
+  printf '; %s takes %s' "$1" "${taken[${words[0]} $1]}"
 }
 
 explain_missing() { # name, words
   case $1 in
     command) tell commands "no command is given; the commands are $(listed "${commands[@]}")" ;;
     schema) tell schemas "word 1 has to be a schema, such as host:2 or time:8@1700000000/3600,host:4, and is missing" ;;
-    *) tell "$2" "$1 is required and missing; it takes ${taken[$1]-a value}" ;;
+    *) tell "$2" "$1 is required and missing; it takes ${taken[$2 $1]-a value}" ;;
   esac
 }

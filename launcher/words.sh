@@ -7,7 +7,7 @@ read_words() {
   while IFS=$'\t' read -r kind command name text; do
     case $kind in
       command) commands+=("$command") options[$command]='' reads[$command]=$name ;;
-      option) options[$command]+="$name " taken[$name]=$text ;;
+      option) options[$command]+="$name " taken[$command $name]=$text ;;
     esac
   done
 }

@@ -38,7 +38,7 @@ mod write;
 pub use gate::{Gate, OpenGate, Point};
 pub use places::Places;
 pub use play::race;
-pub use report::Ran;
+pub use report::{Ran, any_altered};
 pub use round::ask_round;
 pub use setting::{Crew, Race};
 pub use write::{Written, write_rows};

@@ -44,11 +44,14 @@ fn push_lines(report: &mut Report, lines: Vec<Line>) -> Result<(), Memory>
 fn is_altered(line: &Line) -> bool
     ensures { result ≡ is_altered line.now }
 {
-    matches!(line, Line::Altered { .. } | Line::TreeAltered { .. })
+    matches!(
+        line,
+        Line::Altered { .. } | Line::TreeAltered { .. } | Line::GroupAltered { .. }
+    )
 }
 
-// Whether the check refused a pair.
-fn any_altered(lines: &[Line]) -> bool
+/// Whether the check refused a pair.
+pub fn any_altered(lines: &[Line]) -> bool
     ensures { result ≡ list_any is_altered lines.now }
 {
     for line in lines {

@@ -32,12 +32,20 @@ gap_text server had floor = codes "again server " ++ decimal server ++ codes " h
 abbrev pub back_gap_text : ℕ → ℕ → ℕ → ℕ → List ℕ
 back_gap_text writer server had floor = codes "back " ++ decimal writer ++ codes " " ++ gap_text server had floor
 
+-- a bucket of a query by the buckets of a column
+abbrev pub bucket_text : ℕ → ℕ → List ℕ
+bucket_text index bucket = codes "group " ++ decimal index ++ codes " bucket " ++ decimal bucket
+
+-- a total and a weighted total that the check refused
+abbrev pub refused_text : ℕ → ℕ → List ℕ
+refused_text total weighted = codes "altered total " ++ decimal total ++ codes " weighted " ++ decimal weighted
+
 -- a line's text, without its line feed
 abbrev pub line_text : Line → List ℕ
 line_text (lines.Answer who rows aggregate total) =
     who_text who ++ codes " rows " ++ decimal rows ++ codes " " ++ aggregate_text aggregate ++ codes " " ++ decimal total
 line_text (lines.Altered who rows total weighted) =
-    who_text who ++ codes " rows " ++ decimal rows ++ codes " altered total " ++ decimal total ++ codes " weighted " ++ decimal weighted
+    who_text who ++ codes " rows " ++ decimal rows ++ codes " " ++ refused_text total weighted
 line_text (lines.Again who server had floor) = who_text who ++ codes " " ++ gap_text server had floor
 line_text (lines.Draw actor place) = codes "draw " ++ decimal actor ++ codes " place " ++ decimal place
 line_text (lines.Look actor server prefix) =
@@ -52,7 +60,11 @@ line_text (lines.Trace index server visits words) =
 line_text (lines.Tree low high total nodes) =
     codes "tree 0 places " ++ decimal low ++ codes " to " ++ decimal high
     ++ codes " count " ++ decimal total ++ codes " nodes " ++ decimal nodes
-line_text (lines.TreeAltered total weighted) = codes "tree 0 altered total " ++ decimal total ++ codes " weighted " ++ decimal weighted
+line_text (lines.TreeAltered total weighted) = codes "tree 0 " ++ refused_text total weighted
+line_text (lines.Group index bucket rows aggregate total) =
+    bucket_text index bucket ++ codes " rows " ++ decimal rows ++ codes " " ++ aggregate_text aggregate ++ codes " " ++ decimal total
+line_text (lines.GroupAltered index bucket total weighted) =
+    bucket_text index bucket ++ codes " " ++ refused_text total weighted
 line_text (lines.BadWord index) = codes "waldo: bad word " ++ decimal index
 line_text (lines.Missing name) = codes "waldo: missing " ++ name
 line_text (lines.BadStep index) = codes "waldo: step " ++ decimal index ++ codes " not allowed"

@@ -105,6 +105,21 @@ pub enum Line {
         total: u128,
         weighted: u128,
     },
+    /// The count or sum over those of `rows` rows that have a bucket, of the query by the buckets of a column with this index.
+    Group {
+        index: u64,
+        bucket: u8,
+        rows: u64,
+        aggregate: Aggregate,
+        total: u64,
+    },
+    /// The check refused the total and weighted total that such a query opened for a bucket.
+    GroupAltered {
+        index: u64,
+        bucket: u8,
+        total: u128,
+        weighted: u128,
+    },
     /// The command word with this index, from 0, is refused.
     BadWord {
         index: u64,
@@ -203,6 +218,40 @@ impl fmt::Display for BackGap {
     }
 }
 
+// A bucket of a query by the buckets of a column.
+#[derive(Clone, Copy)]
+struct Bucket {
+    index: u64,
+    bucket: u8,
+}
+
+impl fmt::Display for Bucket {
+    ghost use Rattle.report_lines.specs.Line.{bucket_text};
+
+    ghost output = { λ b. Some (bucket_text b.index b.bucket) };
+
+    fn fmt<W: fmt::Write>(&self, f: &mut fmt::Formatter<W>) -> fmt::Result {
+        write!(f, "group {} bucket {}", self.index, self.bucket)
+    }
+}
+
+// A total and a weighted total that the check refused.
+#[derive(Clone, Copy)]
+struct Refused {
+    total: u128,
+    weighted: u128,
+}
+
+impl fmt::Display for Refused {
+    ghost use Rattle.report_lines.specs.Line.{refused_text};
+
+    ghost output = { λ pair. Some (refused_text pair.total pair.weighted) };
+
+    fn fmt<W: fmt::Write>(&self, f: &mut fmt::Formatter<W>) -> fmt::Result {
+        write!(f, "altered total {} weighted {}", self.total, self.weighted)
+    }
+}
+
 // The word for what was asked.
 fn name_of(aggregate: &Aggregate) -> &'static str
     ensures { result.now ≡ aggregate_text aggregate.now }
@@ -230,10 +279,11 @@ impl fmt::Display for Line {
                 total,
                 weighted,
             } => {
-                write!(
-                    f,
-                    "{who} rows {rows} altered total {total} weighted {weighted}"
-                )
+                let pair = Refused {
+                    total: *total,
+                    weighted: *weighted,
+                };
+                write!(f, "{who} rows {rows} {pair}")
             }
             Line::Again {
                 who,
@@ -300,7 +350,40 @@ impl fmt::Display for Line {
                 )
             }
             Line::TreeAltered { total, weighted } => {
-                write!(f, "tree 0 altered total {total} weighted {weighted}")
+                let pair = Refused {
+                    total: *total,
+                    weighted: *weighted,
+                };
+                write!(f, "tree 0 {pair}")
+            }
+            Line::Group {
+                index,
+                bucket,
+                rows,
+                aggregate,
+                total,
+            } => {
+                let bucket = Bucket {
+                    index: *index,
+                    bucket: *bucket,
+                };
+                write!(f, "{bucket} rows {rows} {} {total}", name_of(aggregate))
+            }
+            Line::GroupAltered {
+                index,
+                bucket,
+                total,
+                weighted,
+            } => {
+                let bucket = Bucket {
+                    index: *index,
+                    bucket: *bucket,
+                };
+                let pair = Refused {
+                    total: *total,
+                    weighted: *weighted,
+                };
+                write!(f, "{bucket} {pair}")
             }
             Line::BadWord { index } => write!(f, "waldo: bad word {index}"),
             Line::Missing { name } => write!(f, "waldo: missing {}", name.as_str()),

@@ -18,6 +18,9 @@ const NOTHING_SAID: &str = "replay|host:2|--query|count host=3|--schedule|f0";
 
 const TIME: &str = "ask|time:8@1700000000/3600|--query|count time=1700000000";
 
+/// How many bytes of text a sink takes: more than the 256 lines of a column of 8 bits.
+const ROOM: u64 = 10_000;
+
 /// Words, an input, the status and the text that is put.
 pub(crate) type Case = (&'static str, &'static str, u8, &'static str);
 
@@ -314,19 +317,19 @@ fn record_wires(alloc: Global) -> Result<Vec<RecordWire>, Memory> {
     Ok(wires)
 }
 
-// Sixteen wires that keep their messages, of which the first adds each amount to the first word of a message.
+// Sixteen wires that keep their messages, of which the first adds each amount to a word of a message.
 pub(crate) fn shift_wires(
     alloc: Global,
-    amounts: &[(u64, u128)],
+    amounts: &[(u64, u64, u128)],
 ) -> Result<Vec<ShiftWire<RecordWire>>, Memory> {
     let mut wires = Vec::new(alloc);
     for i in 0..16 {
         let mut shifts = Shifts::new(alloc);
-        for (message, amount) in amounts {
+        for (message, word, amount) in amounts {
             if i == 0 {
                 shifts.push(Shift {
                     message: *message,
-                    word: 0,
+                    word: *word,
                     amount: *amount,
                 })?;
             }
@@ -348,7 +351,7 @@ pub(crate) fn runs<R: Abort + Threads + Sync, W: Wire>(
     let (words, input, status, text) = *case;
     let list = words_of(alloc, words)?;
     let mut source = MemorySource::new(alloc, input.as_bytes(), reads)?;
-    let mut sink = MemorySink::new(alloc, 1000, puts)?;
+    let mut sink = MemorySink::new(alloc, ROOM, puts)?;
     let mut trace = Trace::new(alloc);
     assert_eq!(rt; wires.len(), 16);
     assert_eq!(rt;
@@ -455,12 +458,12 @@ fn messages(rt: HostRuntime) -> Result<(), Fail> {
 }
 
 // The key of the one predicate: the number of the first two words of its weight's seed, made odd.
-const KEY: u128 = 11186861279801934813;
+pub(crate) const KEY: u128 = 11186861279801934813;
 
 #[test]
 fn alterations(rt: HostRuntime) -> Result<(), Fail> {
     let alloc = rt.alloc();
-    let cases: [(Case, &[(u64, u128)]); 6] = [
+    let cases: [(Case, &[(u64, u64, u128)]); 6] = [
         (
             (
                 COUNT,
@@ -468,7 +471,7 @@ fn alterations(rt: HostRuntime) -> Result<(), Fail> {
                 7,
                 "ask 0 rows 3 altered total 3 weighted 22373722559603869626\n",
             ),
-            &[(6, 1)],
+            &[(6, 0, 1)],
         ),
         // The first of two queries: the second, whose messages are as they were sent, has its plain answer.
         (
@@ -478,12 +481,12 @@ fn alterations(rt: HostRuntime) -> Result<(), Fail> {
                 7,
                 "ask 0 rows 3 altered total 3 weighted 22373722559603869626\nask 1 rows 3 count 1\n",
             ),
-            &[(6, 1)],
+            &[(6, 0, 1)],
         ),
         // Made good in the second run: the limit of the check.
         (
             (COUNT, INPUT, 0, "ask 0 rows 3 count 3\n"),
-            &[(6, 1), (12, KEY)],
+            &[(6, 0, 1), (12, 0, KEY)],
         ),
         // The relation is kept, and the total is 2^64 and more.
         (
@@ -493,7 +496,7 @@ fn alterations(rt: HostRuntime) -> Result<(), Fail> {
                 7,
                 "ask 0 rows 3 altered total 18446744073709551618 weighted 206361167016597191147065126915094677434\n",
             ),
-            &[(6, 1 << 64), (12, KEY << 64)],
+            &[(6, 0, 1 << 64), (12, 0, KEY << 64)],
         ),
         // What servers see of an altered query and of one that is not, with the line of the first.
         (
@@ -509,10 +512,10 @@ fn alterations(rt: HostRuntime) -> Result<(), Fail> {
                  trace 1 server 1 visits 4 words 62\n\
                  trace 1 server 2 visits 4 words 62\n",
             ),
-            &[(6, 1)],
+            &[(6, 0, 1)],
         ),
         // A second that a count of one predicate does not use, made good at the opening.
-        ((COUNT, INPUT, 0, "ask 0 rows 3 count 2\n"), &[(3, 1)]),
+        ((COUNT, INPUT, 0, "ask 0 rows 3 count 2\n"), &[(3, 0, 1)]),
     ];
     for (case, amounts) in &cases {
         let mut wires = shift_wires(alloc, amounts).ok().ok_or("memory")?;
@@ -582,7 +585,7 @@ fn hosts(alloc: Global, rows: u64) -> Result<String, Memory> {
 }
 
 // The words over these rows put this text. What the servers see of the queries.
-fn answers<R: Abort + Threads + Sync>(
+pub(crate) fn answers<R: Abort + Threads + Sync>(
     rt: &R,
     alloc: Global,
     words: &str,
@@ -591,7 +594,7 @@ fn answers<R: Abort + Threads + Sync>(
 ) -> Result<Trace, Memory> {
     let list = words_of(alloc, words)?;
     let mut source = SureSource::new(alloc, input.as_bytes())?;
-    let mut sink = MemorySink::new(alloc, 1000, &[])?;
+    let mut sink = MemorySink::new(alloc, ROOM, &[])?;
     let mut wires = straight_wires(alloc)?;
     let mut trace = Trace::new(alloc);
     assert_eq!(rt; wires.len(), 16);

@@ -168,7 +168,7 @@ fn an_altered_opening(rt: HostRuntime) -> Result<(), Fail> {
         7,
         "tree 0 altered total 3 weighted 22373722559603869626\n",
     );
-    let mut wires = shift_wires(alloc, &[(3, 1)]).ok().ok_or("memory")?;
+    let mut wires = shift_wires(alloc, &[(3, 0, 1)]).ok().ok_or("memory")?;
     runs(&rt, alloc, &said, &mut wires, &[], &[])
         .ok()
         .ok_or("memory")?;

@@ -1,9 +1,10 @@
-use query_plan::Query;
+use query_plan::{GroupQuery, Query};
 use std::alloc::{AllocError, Global};
 use std::test::Fail;
 use table_schema::{Aggregate, Kind};
 use waldo_words::{
-    Amount, Command, Common, Queries, Schedule, ShiftWord, ShiftWords, Step, WordFault, read_words,
+    Amount, Command, Common, Groups, Queries, Schedule, ShiftWord, ShiftWords, Step, WordFault,
+    read_words,
 };
 
 /// Words, and what is answered to them: that they are read, the index of a bad word, or what is missing.
@@ -14,7 +15,7 @@ const READ: &str = "read";
 const WORD: &str = "word";
 
 // The order of refusals, and words in the place of options and values.
-const ORDER: [Case; 25] = [
+const ORDER: [Case; 29] = [
     ("", 0, "command"),
     ("sum", 0, WORD),
     ("sum|host:9", 0, WORD),
@@ -40,10 +41,14 @@ const ORDER: [Case; 25] = [
     ("make|host:2", 0, "--query"),
     ("make|host:2|--query=count host=3|--rows=1", 0, "--number"),
     ("tamper|host:2|--query|count host=3", 0, "--shift"),
+    ("groups|host:2", 0, "--query"),
+    ("groups|host:2|--workers=2|--seed=0", 3, WORD),
+    ("groups|host:2|--rows|1", 2, WORD),
+    ("groups|host:2|--from|1", 2, WORD),
 ];
 
 // The values of options.
-const VALUES: [Case; 40] = [
+const VALUES: [Case; 51] = [
     ("ask|host:2|--query=count host=3|--workers=0016", 0, READ),
     ("ask|host:2|--workers|0", 3, WORD),
     ("ask|host:2|--workers|17", 3, WORD),
@@ -108,6 +113,22 @@ const VALUES: [Case; 40] = [
         3,
         WORD,
     ),
+    // A query by the buckets of a column, which `groups` alone asks, and which asks no other.
+    (
+        "groups|host:2,level:1|--query|sum host<=1 level=1 by level",
+        0,
+        READ,
+    ),
+    ("groups|host:2|--query=count host=1 by host", 0, READ),
+    ("groups|host:2|--query|sum host=1", 3, WORD),
+    ("groups|host:2|--query|max host=1 by host", 3, WORD),
+    ("groups|host:2|--query|sum host=1 by", 3, WORD),
+    ("groups|host:2|--query|sum host=1 by level", 3, WORD),
+    ("groups|host:2|--query|sum host=1  by host", 3, WORD),
+    ("groups|host:2|--query|sum host=1 BY host", 3, WORD),
+    ("groups|host:2|--query|by host", 3, WORD),
+    ("ask|host:2|--query|sum host=1 by host", 3, WORD),
+    ("tree|host:2|--query|count host=1 by host", 3, WORD),
 ];
 
 // The words of a text, cut at each bar; none for the empty text.
@@ -290,6 +311,40 @@ fn a_range(rt: HostRuntime) -> Result<(), Fail> {
     Ok(())
 }
 
+// Queries by the buckets of a column, in their order; the others of the command are none.
+#[test]
+fn groups(rt: HostRuntime) -> Result<(), Fail> {
+    let alloc = rt.alloc();
+    let grouped =
+        "groups|host:2,level:1|--query|sum host=0..1 level=1 by level|--workers=2|--query=count level=1 by host";
+    let Ok(Command::Groups { common, groups }) = read(alloc, grouped) else {
+        return Err("groups".into());
+    };
+    assert!(rt; common.queries.is_empty());
+    assert_eq!(rt; (common.capacity, common.workers), (65_536, 2));
+    let queries: &[GroupQuery] = groups.as_slice();
+    assert_eq!(rt; queries.len(), 2);
+    assert_eq!(rt;
+        (
+            queries[0].query.aggregate,
+            queries[0].query.count,
+            queries[0].column
+        ),
+        (Aggregate::Sum, 2, 1)
+    );
+    assert_eq!(rt;
+        (
+            queries[1].query.aggregate,
+            queries[1].query.count,
+            queries[1].column
+        ),
+        (Aggregate::Count, 1, 0)
+    );
+    let groups = Groups::from_vec(groups.into_vec());
+    assert!(rt; groups.len() == 2 && !groups.is_empty());
+    Ok(())
+}
+
 // Words with `queries` queries and `steps` steps.
 fn long(alloc: Global, queries: u64, steps: u64) -> Result<Vec<String>, AllocError> {
     let mut words = words_of(alloc, "replay|host:2|--schedule")?;
@@ -313,6 +368,26 @@ fn limits(rt: HostRuntime) -> Result<(), Fail> {
             Err(WordFault::Word { index }) => assert_eq!(rt; index, bad),
             _ => return Err("a bad word".into()),
         }
+    }
+    Ok(())
+}
+
+// Words with `queries` queries by the buckets of a column.
+fn many(alloc: Global, queries: u64) -> Result<Vec<String>, AllocError> {
+    let mut words = words_of(alloc, "groups|host:2")?;
+    for _ in 0..queries {
+        words.push(String::from_str(alloc, "--query=count host=3 by host")?)?;
+    }
+    Ok(words)
+}
+
+#[test]
+fn a_seventeenth_group(rt: HostRuntime) -> Result<(), Fail> {
+    let alloc = rt.alloc();
+    assert!(rt; read_words(alloc, &many(alloc, 16)?).is_ok());
+    match read_words(alloc, &many(alloc, 17)?) {
+        Err(WordFault::Word { index }) => assert_eq!(rt; index, 18),
+        _ => return Err("a bad word".into()),
     }
     Ok(())
 }

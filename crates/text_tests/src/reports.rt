@@ -139,6 +139,35 @@ fn texts(rt: HostRuntime) -> Result<(), Fail> {
             },
             "tree 0 altered total 3 weighted 22373722559603869626\n",
         ),
+        (
+            Line::Group {
+                index: 0,
+                bucket: 3,
+                rows: 7,
+                aggregate: sum,
+                total: 15,
+            },
+            "group 0 bucket 3 rows 7 sum 15\n",
+        ),
+        (
+            Line::Group {
+                index: 15,
+                bucket: 255,
+                rows: 65536,
+                aggregate: count,
+                total: 0,
+            },
+            "group 15 bucket 255 rows 65536 count 0\n",
+        ),
+        (
+            Line::GroupAltered {
+                index: 0,
+                bucket: 3,
+                total: 16,
+                weighted: u128::MAX,
+            },
+            "group 0 bucket 3 altered total 16 weighted 340282366920938463463374607431768211455\n",
+        ),
     ];
     let mut report = Report::new(rt.alloc());
     let mut wanted = String::new(rt.alloc());

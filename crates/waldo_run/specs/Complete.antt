@@ -23,7 +23,7 @@ use Rattle.waldo_run.specs.Run.{AskedOver}
 use Rattle.waldo_run.specs.Tampered.{shifts_of}
 use Rattle.waldo_run.specs.Tasks.{common_in, reads_input, rows_in, rows_made}
 use Rattle.waldo_run.specs.Works.{Work, work_over}
-use Rattle.waldo_run.specs.Works.Work.{Steps, Range}
+use Rattle.waldo_run.specs.Works.Work.{Steps, Range, Buckets}
 
 -- these are the rows of an input that is not too long
 abbrev pub GivesRows : Common → Option (List ℕ) → List Row → Type 0
@@ -39,6 +39,7 @@ StepsHaveCases Rounds task = (stage : Stage) × (played (plainly task.setting) t
 abbrev pub HaveCases : Work → Type 0
 HaveCases (Steps task) = StepsHaveCases task.style task
 HaveCases (Range s low high) = high ≤ length s.rows
+HaveCases (Buckets bits s groups) = ⊤
 
 -- a command whose input is accepted, or is not read; its rows; and each of its steps has a case
 pub record IsAccepted (command : Command) (input : Option (List ℕ)) (rows : List Row) : Type 0 where

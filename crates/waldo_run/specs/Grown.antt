@@ -14,11 +14,13 @@ use Rattle.visit_trace.specs.declared.sizes.Sizes.{Sizes}
 use Rattle.waldo_words.specs.declared.command.Command.{Command}
 use Rattle.waldo_words.specs.declared.command.Command.TheVariants as commands
 use Rattle.waldo_words.specs.declared.faults.WordFault.{WordFault}
+use Rattle.waldo_run.specs.Buckets.{group_traces}
 use Rattle.waldo_run.specs.Replies.{Reply, Suits}
 use Rattle.waldo_run.specs.Tasks.{AreWidthsIn, common_in, rows_in, rows_made, setting_of}
 
 -- The sizes of a command's queries over its rows: of each query those over all rows, or, in a schedule, those of each answer over the rows
--- that its actor agreed on. (A race has steps of its own. A range of places is no query over all rows: its servers read nodes of trees.)
+-- that its actor agreed on. (A race has steps of its own. A range of places is no query over all rows: its servers read
+-- nodes of trees. Queries by the buckets of a column have traces of their own.)
 abbrev pub sizes_by : Command → Widths → List Row → List Sizes
 sizes_by (commands.Ask common) w rows = asked_sizes w (length rows) common.queries
 sizes_by (commands.Replay common schedule) w rows = sizes_in w (scheduled (setting_of common rows) schedule)
@@ -27,10 +29,17 @@ sizes_by (commands.Make common number count) w rows = asked_sizes w (length rows
 sizes_by (commands.Trace common) w rows = asked_sizes w (length rows) common.queries
 sizes_by (commands.Tamper common shifts) w rows = asked_sizes w (length rows) common.queries
 sizes_by (commands.Tree common low high) w rows = []
+sizes_by (commands.Groups common groups) w rows = []
 
--- What the trace of a run grew by, where `grew` is said of that part: over rows, the traces of these sizes
+-- What the servers see of a command's queries over its rows: the traces of these sizes, one after another; of queries by the buckets of a
+-- column the traces of their sizes and of that column
+abbrev pub trace_by : Command → Widths → List Row → AllSeen
+trace_by (commands.Groups common groups) w rows = group_traces w (length rows) groups
+trace_by command w rows = traces_of (sizes_by command w rows)
+
+-- What the trace of a run grew by, where `grew` is said of that part: over rows, what the servers see of the queries
 abbrev pub SeesOver : Command → (AllSeen → Type 0) → List Row → Type 0
-SeesOver command grew rows = (w : Widths) × AreWidthsIn command w × grew (traces_of (sizes_by command w rows))
+SeesOver command grew rows = (w : Widths) × AreWidthsIn command w × grew (trace_by command w rows)
 
 -- over rows that may have a fault: nothing, where they have one
 abbrev pub SeesIn : Command → (AllSeen → Type 0) → Result (List Row) RowFault → Type 0

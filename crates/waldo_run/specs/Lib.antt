@@ -1,3 +1,4 @@
+pub mod Buckets
 pub mod Grown
 pub mod Complete
 pub mod Headline

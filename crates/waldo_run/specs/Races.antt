@@ -46,6 +46,7 @@ IsRacing (commands.Make common number count) = ⊥
 IsRacing (commands.Trace common) = ⊥
 IsRacing (commands.Tamper common shifts) = ⊥
 IsRacing (commands.Tree common low high) = ⊥
+IsRacing (commands.Groups common groups) = ⊥
 
 -- who takes part in a race, as its words say
 abbrev pub crew_of : Common → ℕ → ℕ → ℕ → Crew
@@ -101,6 +102,7 @@ RacedBy (Ok (commands.Make common number count)) reading sent grew reply = ⊥
 RacedBy (Ok (commands.Trace common)) reading sent grew reply = ⊥
 RacedBy (Ok (commands.Tamper common shifts)) reading sent grew reply = ⊥
 RacedBy (Ok (commands.Tree common low high)) reading sent grew reply = ⊥
+RacedBy (Ok (commands.Groups common groups)) reading sent grew reply = ⊥
 
 -- The source was met in one of its ways, these messages went over the wires, the reply is one that a race may come to with them, and the
 -- trace grew by what the servers see of its report.
@@ -143,6 +145,7 @@ CarriedFor (Ok (commands.Make common number count)) source sent = sent ≡ []
 CarriedFor (Ok (commands.Trace common)) source sent = sent ≡ []
 CarriedFor (Ok (commands.Tamper common shifts)) source sent = sent ≡ []
 CarriedFor (Ok (commands.Tree common low high)) source sent = sent ≡ []
+CarriedFor (Ok (commands.Groups common groups)) source sent = sent ≡ []
 
 -- Whether or not memory ran out, the wires carried the first of the messages that a race over the input's rows has, if any.
 pub record RaceCarries (command : Result Command WordFault) (source : Change) (carried : List (List Message) → Type 0) : Type 0 where

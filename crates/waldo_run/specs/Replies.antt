@@ -1,5 +1,6 @@
 -- The reply to each command and each way in which the input was met.
 use Rattle.std.specs.Prelude.{◌≡◌, ◌≢◌, ℕ, zero, suc, if◌then◌else◌, nat_lt, MatchBool, Result, Ok, Err, List, [], ◌∷◌, length, map}
+use Rattle.std.specs.List.{list_any}
 use Rattle.query_plan.specs.Query.{shaped}
 use Rattle.query_plan.specs.declared.query.Query.{Query}
 use Rattle.row_source.specs.Input.{Reading}
@@ -8,6 +9,7 @@ use Rattle.row_source.specs.declared.faults.RowFault.{RowFault}
 use Rattle.row_source.specs.declared.faults.RowFault.TheVariants as row
 use Rattle.row_source.specs.declared.input.ReadFault.{ReadFault}
 use Rattle.row_source.specs.declared.input.ReadFault.TheVariants as input
+use Rattle.race_play.specs.Reports.{is_altered}
 use Rattle.report_lines.specs.declared.lines.Line.{Line}
 use Rattle.report_lines.specs.declared.lines.Line.TheVariants as lines
 use Rattle.table_schema.specs.declared.rows.Row.{Row}
@@ -26,11 +28,12 @@ use Rattle.waldo_words.specs.declared.command.Command.{Command}
 use Rattle.waldo_words.specs.declared.command.Command.TheVariants as commands
 use Rattle.waldo_words.specs.declared.faults.WordFault.{WordFault}
 use Rattle.waldo_words.specs.declared.faults.WordFault.TheVariants as words
+use Rattle.waldo_run.specs.Buckets.{checked_lines, plain_group_lines}
 use Rattle.waldo_run.specs.Tasks.{bits_of, common_in, reads_input, rows_in, rows_made}
 use Rattle.waldo_run.specs.Traces.{noted_over, traced}
 use Rattle.waldo_run.specs.Trees.{judged_in, plain_count}
 use Rattle.waldo_run.specs.Works.{Work, work_over}
-use Rattle.waldo_run.specs.Works.Work.{Steps, Range}
+use Rattle.waldo_run.specs.Works.Work.{Steps, Range, Buckets}
 
 -- a status and a report
 pub record Reply : Type 0 where
@@ -86,9 +89,14 @@ range_line low high (Err pair) = single 7 (lines.TreeAltered pair.total pair.wei
 abbrev pub range_reply : Setting → ℕ → ℕ → Result ℕ Altered → Reply
 range_reply s low high said = if nat_lt (length s.rows) high then single 5 (lines.TooFew high) else range_line low high said
 
+-- the reply of lines: 7 where one of them is that of a refused pair
+abbrev pub lines_reply : List Line → Reply
+lines_reply report = record { status = if list_any is_altered report then 7 else 0; report = report }
+
 abbrev pub checked_answer : List Done → Answering
 checked_answer history (Steps task) = ended (played (opened_in history) task)
 checked_answer history (Range s low high) = range_reply s low high (judged_in s (pair_at history 0))
+checked_answer history (Buckets bits s groups) = lines_reply (checked_lines bits s 0 groups history)
 
 -- rows that are appended and then asked: the plain answer of each query over all of them; a schedule: the core's replies, with each answer
 -- plain
@@ -96,10 +104,11 @@ abbrev pub plain_in : Style → Task → Reply
 plain_in Queries task = record { status = 0; report = plain_lines task.setting.rows 0 task.setting.queries }
 plain_in Rounds task = ended (played (plainly task.setting) task)
 
--- of a range, how many of its rows pass
+-- of a range, how many of its rows pass; of queries by buckets, the plain answer over the rows of each bucket
 abbrev pub plain_answer : Answering
 plain_answer (Steps task) = plain_in task.style task
 plain_answer (Range s low high) = range_reply s low high (Ok (plain_count s low high))
+plain_answer (Buckets bits s groups) = lines_reply (plain_group_lines bits s 0 groups)
 
 -- the reply to a command's work, as the command reports it: `trace` has what the servers saw in place of the answers
 abbrev pub reported : Command → List Row → Reply → Reply

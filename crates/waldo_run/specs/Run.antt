@@ -135,6 +135,7 @@ LacksRows (commands.Make common number count) rows = ⊥
 LacksRows (commands.Trace common) rows = ⊥
 LacksRows (commands.Tamper common shifts) rows = ⊥
 LacksRows (commands.Tree common low high) rows = length rows < high
+LacksRows (commands.Groups common groups) rows = ⊥
 
 -- an input that gives no rows, or fewer than the command asks for
 abbrev pub IsRefusedBy : Command → Result (List Row) RowFault → Type 0
@@ -164,3 +165,4 @@ HasSchedule (Ok (commands.Make common number count)) = ⊥
 HasSchedule (Ok (commands.Trace common)) = ⊥
 HasSchedule (Ok (commands.Tamper common shifts)) = ⊥
 HasSchedule (Ok (commands.Tree common low high)) = ⊥
+HasSchedule (Ok (commands.Groups common groups)) = ⊥

@@ -48,6 +48,7 @@ shifts_of (Ok (commands.Race common writers askers rounds)) = None
 shifts_of (Ok (commands.Make common number count)) = None
 shifts_of (Ok (commands.Trace common)) = None
 shifts_of (Ok (commands.Tree common low high)) = None
+shifts_of (Ok (commands.Groups common groups)) = None
 shifts_of (Ok (commands.Tamper common words)) = Some (shifts_over (setting_of common []) words)
 
 -- each message was received as it was sent, plus the amounts of the shifts that name it

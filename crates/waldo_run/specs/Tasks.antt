@@ -21,6 +21,7 @@ common_in (commands.Make common number rows) = common
 common_in (commands.Trace common) = common
 common_in (commands.Tamper common shifts) = common
 common_in (commands.Tree common low high) = common
+common_in (commands.Groups common groups) = common
 
 -- the bits of the columns
 abbrev pub bits_of : Common → List ℕ
@@ -40,6 +41,7 @@ task_over (commands.Make common number count) rows = asking (setting_of common r
 task_over (commands.Trace common) rows = asking (setting_of common rows)
 task_over (commands.Tamper common shifts) rows = asking (setting_of common rows)
 task_over (commands.Tree common low high) rows = asking (setting_of common rows)
+task_over (commands.Groups common groups) rows = asking (setting_of common rows)
 
 -- whether a command reads its rows from the input; else it makes them
 abbrev pub reads_input : Command → Bool
@@ -50,6 +52,7 @@ reads_input (commands.Make common number count) = false
 reads_input (commands.Trace common) = true
 reads_input (commands.Tamper common shifts) = true
 reads_input (commands.Tree common low high) = true
+reads_input (commands.Groups common groups) = true
 
 -- the rows of an input, at most as many as the capacity, or its first fault
 abbrev pub rows_in : Common → List ℕ → Result (List Row) RowFault
@@ -64,6 +67,7 @@ rows_made (commands.Make common number count) = made_rows (bits_of common) numbe
 rows_made (commands.Trace common) = []
 rows_made (commands.Tamper common shifts) = []
 rows_made (commands.Tree common low high) = []
+rows_made (commands.Groups common groups) = []
 
 -- the widths of a command's columns
 abbrev pub AreWidthsIn : Command → Widths → Type 0

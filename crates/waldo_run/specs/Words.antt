@@ -20,6 +20,7 @@ only_built (Ok (commands.Trace common)) = Ok (commands.Trace common)
 only_built (Ok (commands.Race common writers askers rounds)) = Err (Word 0)
 only_built (Ok (commands.Tamper common shifts)) = Ok (commands.Tamper common shifts)
 only_built (Ok (commands.Tree common low high)) = Ok (commands.Tree common low high)
+only_built (Ok (commands.Groups common groups)) = Ok (commands.Groups common groups)
 
 -- the words begin with the name of a command that is not built yet
 abbrev pub begin_unbuilt : List (List ℕ) → Bool
@@ -39,3 +40,4 @@ IsBuilt (commands.Trace common) = ⊤
 IsBuilt (commands.Race common writers askers rounds) = ⊥
 IsBuilt (commands.Tamper common shifts) = ⊤
 IsBuilt (commands.Tree common low high) = ⊤
+IsBuilt (commands.Groups common groups) = ⊤

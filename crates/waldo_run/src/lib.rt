@@ -8,6 +8,8 @@
 //!
 //! `tree` plays no steps alone: it appends the rows, and asks its one query over trees of a column of them, in nine messages.
 //!
+//! `groups` asks its queries by the buckets of a column over these rows, one after another.
+//!
 //! [`run`] does the same and has `race` too, in which writers and askers work at once. What a race prints is no function of words and
 //! bytes, so its clause says which reports may come with the messages that went over the wires.
 //!
@@ -20,6 +22,7 @@
 #![tactic(auto)]
 
 mod finish;
+mod groups;
 mod made;
 mod race;
 mod refusals;

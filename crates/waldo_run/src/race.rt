@@ -180,7 +180,8 @@ fn race_command<R: Threads + Wait + Sync, S: Source, W: Wire + Send, G: Gate + S
         | Command::Make { .. }
         | Command::Trace(_)
         | Command::Tamper { .. }
-        | Command::Tree { .. } => unreachable!(),
+        | Command::Tree { .. }
+        | Command::Groups { .. } => unreachable!(),
     }
 }
 

@@ -43,7 +43,8 @@ fn common_of(command: &Command) -> &Common
         | Command::Make { common, .. }
         | Command::Trace(common)
         | Command::Tamper { common, .. }
-        | Command::Tree { common, .. } => common,
+        | Command::Tree { common, .. }
+        | Command::Groups { common, .. } => common,
     }
 }
 

@@ -5,7 +5,7 @@ ghost use Rattle.schedule_play.specs.Plays.{Plays, seen};
 ghost use Rattle.schedule_play.specs.Tasks.{IsSetting};
 ghost use Rattle.schedule_play.specs.Traces.{AddsTraces, traces_of};
 ghost use Rattle.visit_trace.specs.Seen.{GrewBy};
-ghost use Rattle.waldo_run.specs.Grown.{sizes_by};
+ghost use Rattle.waldo_run.specs.Grown.{sizes_by, trace_by};
 ghost use Rattle.waldo_run.specs.Tampered.{CarriedBy, UnalteredBy};
 ghost use Rattle.table_schema.specs.Widths.{Holds};
 ghost use Rattle.waldo_run.specs.Replies.{IsReplyOf, checked_answer, reported, rows_reply};
@@ -15,6 +15,7 @@ ghost use Rattle.waldo_run.specs.Words.{IsBuilt};
 ghost use Rattle.waldo_run.specs.Works.{PlaysSteps};
 ghost use Rattle.waldo_words.specs.Legal.{IsLegal};
 
+use crate::groups::answer_buckets;
 use crate::reply::{Reply, single_line};
 use crate::seen::all_noted;
 use crate::tamper::tamper;
@@ -103,7 +104,7 @@ fn play<R: Threads + Sync, W: Wire>(
                 trace,
             )
         }
-        Command::Race { .. } | Command::Tree { .. } => unreachable!(),
+        Command::Race { .. } | Command::Tree { .. } | Command::Groups { .. } => unreachable!(),
     }
 }
 
@@ -131,7 +132,8 @@ fn reported(
         | Command::Race { .. }
         | Command::Make { .. }
         | Command::Tamper { .. }
-        | Command::Tree { .. } => Ok(reply),
+        | Command::Tree { .. }
+        | Command::Groups { .. } => Ok(reply),
     }
 }
 
@@ -166,8 +168,9 @@ fn answer_steps<R: Threads + Sync, W: Wire>(
     reported(alloc, command, widths, rows, reply)
 }
 
-/// The reply of a command to its rows: that of its steps, or of its query over a range of places. Answers go over the wires. The trace
-/// grows by what the servers see of steps. The only error is out of memory; the first messages may then have been carried.
+/// The reply of a command to its rows: that of its steps, of its query over a range of places, or of its queries by the buckets of a
+/// column. Answers go over the wires. The trace grows by what the servers see of steps, or of queries by buckets. The only error is out of
+/// memory; the first messages may then have been carried.
 pub(crate) fn answer_rows<R: Threads + Sync, W: Wire>(
     rt: &R,
     alloc: Global,
@@ -190,12 +193,16 @@ pub(crate) fn answer_rows<R: Threads + Sync, W: Wire>(
         AskedOver (UnalteredBy W.sight (Ok command.now) wires.old.items wires.new.items) command.now history rows.now
         × (reply ≡ rows_reply (checked_answer history) command.now rows.now)
         × (((actor : ℕ) → UnalteredBy W.sight (Ok command.now) wires.old.items wires.new.items actor) → reply.status ≢ 7)) }
-    ensures trace { GrewBy trace.old trace.new (traces_of (sizes_by command.now widths.now rows.now)) result }
+    ensures trace { GrewBy trace.old trace.new (trace_by command.now widths.now rows.now) result }
 {
     match command {
         Command::Tree { common, low, high } => {
             let setting = setting(common, widths, rows);
             answer_range(rt, alloc, &setting, *low, *high, wires)
+        }
+        Command::Groups { common, groups } => {
+            let setting = setting(common, widths, rows);
+            answer_buckets(rt, alloc, &setting, groups.as_slice(), wires, trace)
         }
         _ => answer_steps(rt, alloc, command, widths, rows, wires, trace),
     }

@@ -50,7 +50,8 @@ fn only_built(command: Command) -> Result<Command, WordFault>
         | Command::Make { .. }
         | Command::Trace(_)
         | Command::Tamper { .. }
-        | Command::Tree { .. } => Ok(command),
+        | Command::Tree { .. }
+        | Command::Groups { .. } => Ok(command),
         Command::Race { .. } => Err(WordFault::Word { index: 0 }),
     }
 }

@@ -1,15 +1,16 @@
 -- What was read is legal.
-use Rattle.std.proofs.Common.{◌≡◌, refl, subst, ℕ, ◌<◌, ◌≤◌, Bool, true, false, List, [], ◌∷◌, length, Option, Some, None, Result, Ok, Err, IfOk, IfSome, All, nat_le, unwrap_or, arith, length-append}
-use Rattle.std.proofs.lemmas.List.Elements.{All-nil, All-push}
+use Rattle.std.proofs.Common.{◌≡◌, refl, subst, ap, ℕ, ◌+◌, ◌<◌, ◌≤◌, Bool, true, false, List, [], ◌∷◌, length, Option, Some, None, Result, Ok, Err, IfOk, IfSome, All, nat_le, nat_lt, unwrap_or, arith, length-append}
+use Rattle.std.proofs.lemmas.List.Elements.{All-head, All-nil, All-push}
+use Rattle.query_plan.specs.declared.group.GroupQuery.{GroupQuery}
 use Rattle.query_plan.specs.declared.query.Query.{Query}
 use Rattle.table_schema.specs.Widths.{Fits, largest_in}
 use Rattle.table_schema.specs.declared.schema.Column.{Column}
 use Rattle.text_reading.specs.Reading.{◌>>=◌, Reads, guard}
 use Rattle.std.specs.Prelude.{codes}
-use Rattle.waldo_words.specs.Legal.{IsCommon, IsFew, IsFound, IsLegal, IsSchedule, IsShift, IsValue, SuitsColumns}
-use Rattle.waldo_words.specs.Options.{may_ask, most_times, nothing_found, option_of, times_found, with_value}
+use Rattle.waldo_words.specs.Legal.{IsAsked, IsCommon, IsFew, IsFound, IsGroup, IsGroups, IsLegal, IsSchedule, IsShift, IsValue, SuitsColumns}
+use Rattle.waldo_words.specs.Options.{asks_groups, may_ask, most_times, nothing_found, option_of, times_found, with_value}
 use Rattle.waldo_words.specs.Values.{bits_in}
-use Rattle.waldo_words.specs.Words.{command_with, common_of, finished, is_some_of, made, ranged, replayed, tampered, to_word}
+use Rattle.waldo_words.specs.Words.{command_with, common_of, finished, made, ranged, replayed, tampered, to_word}
 use Rattle.waldo_words.specs.declared.command.Common.{Common}
 use Rattle.waldo_words.specs.declared.command.Command.{Command}
 use Rattle.waldo_words.specs.declared.command.Command.TheVariants as commands
@@ -32,6 +33,7 @@ none_found command columns = record {
   places = All-nil (λ (q : Query). length q.predicates ≡ 4);
   suits = All-nil (SuitsColumns columns);
   asked = All-nil (λ (q : Query). may_ask command q ≡ true);
+  groups = All-nil (IsAsked command columns);
   capacity = tt;
   workers = tt;
   schedule = tt;
@@ -52,6 +54,24 @@ one_more command columns found (value.Query q) h room legal = record {
   places = All-push (λ (q : Query). length q.predicates ≡ 4) found.queries q h.places legal.places;
   suits = All-push (SuitsColumns columns) found.queries q h.suits legal.suits;
   asked = All-push (λ (q : Query). may_ask command q ≡ true) found.queries q h.asked legal.asked;
+  groups = h.groups;
+  capacity = h.capacity;
+  workers = h.workers;
+  schedule = h.schedule;
+  writers = h.writers;
+  askers = h.askers;
+  rounds = h.rounds;
+  rows = h.rows;
+  shifts = h.shifts;
+  moved = h.moved;
+  to = h.to;
+}
+one_more command columns found (value.Group g) h room legal = record {
+  queries = omega (arith, room, length-append found.groups (g ∷ []));
+  places = h.places;
+  suits = h.suits;
+  asked = h.asked;
+  groups = All-push (IsAsked command columns) found.groups g h.groups legal;
   capacity = h.capacity;
   workers = h.workers;
   schedule = h.schedule;
@@ -68,6 +88,7 @@ one_more command columns found (value.Seed s) h room legal = record {
   places = h.places;
   suits = h.suits;
   asked = h.asked;
+  groups = h.groups;
   capacity = h.capacity;
   workers = h.workers;
   schedule = h.schedule;
@@ -84,6 +105,7 @@ one_more command columns found (value.Capacity n) h room legal = record {
   places = h.places;
   suits = h.suits;
   asked = h.asked;
+  groups = h.groups;
   capacity = legal;
   workers = h.workers;
   schedule = h.schedule;
@@ -100,6 +122,7 @@ one_more command columns found (value.Workers n) h room legal = record {
   places = h.places;
   suits = h.suits;
   asked = h.asked;
+  groups = h.groups;
   capacity = h.capacity;
   workers = legal;
   schedule = h.schedule;
@@ -116,6 +139,7 @@ one_more command columns found (value.Schedule s) h room legal = record {
   places = h.places;
   suits = h.suits;
   asked = h.asked;
+  groups = h.groups;
   capacity = h.capacity;
   workers = h.workers;
   schedule = legal;
@@ -132,6 +156,7 @@ one_more command columns found (value.Writers n) h room legal = record {
   places = h.places;
   suits = h.suits;
   asked = h.asked;
+  groups = h.groups;
   capacity = h.capacity;
   workers = h.workers;
   schedule = h.schedule;
@@ -148,6 +173,7 @@ one_more command columns found (value.Askers n) h room legal = record {
   places = h.places;
   suits = h.suits;
   asked = h.asked;
+  groups = h.groups;
   capacity = h.capacity;
   workers = h.workers;
   schedule = h.schedule;
@@ -164,6 +190,7 @@ one_more command columns found (value.Rounds n) h room legal = record {
   places = h.places;
   suits = h.suits;
   asked = h.asked;
+  groups = h.groups;
   capacity = h.capacity;
   workers = h.workers;
   schedule = h.schedule;
@@ -180,6 +207,7 @@ one_more command columns found (value.Number n) h room legal = record {
   places = h.places;
   suits = h.suits;
   asked = h.asked;
+  groups = h.groups;
   capacity = h.capacity;
   workers = h.workers;
   schedule = h.schedule;
@@ -196,6 +224,7 @@ one_more command columns found (value.Rows n) h room legal = record {
   places = h.places;
   suits = h.suits;
   asked = h.asked;
+  groups = h.groups;
   capacity = h.capacity;
   workers = h.workers;
   schedule = h.schedule;
@@ -212,6 +241,7 @@ one_more command columns found (value.Shift s) h room legal = record {
   places = h.places;
   suits = h.suits;
   asked = h.asked;
+  groups = h.groups;
   capacity = h.capacity;
   workers = h.workers;
   schedule = h.schedule;
@@ -228,6 +258,7 @@ one_more command columns found (value.From n) h room legal = record {
   places = h.places;
   suits = h.suits;
   asked = h.asked;
+  groups = h.groups;
   capacity = h.capacity;
   workers = h.workers;
   schedule = h.schedule;
@@ -244,6 +275,7 @@ one_more command columns found (value.To n) h room legal = record {
   places = h.places;
   suits = h.suits;
   asked = h.asked;
+  groups = h.groups;
   capacity = h.capacity;
   workers = h.workers;
   schedule = h.schedule;
@@ -268,20 +300,25 @@ one_few = (omega arith, omega arith)
 two_few : IsFew 2
 two_few = (omega arith, omega arith)
 
-some_long : {A : Type 0} (xs : List A) → is_some_of xs ≡ true → 1 ≤ length xs
-some_long [] e = absurd cc
-some_long (x ∷ xs) e = omega arith
+-- a command that asks no query by a column has none, and one that asks them has no other
+none_by_column : (command : CommandName) (columns : List Column) (gs : List GroupQuery) → asks_groups command ≡ false → All (IsAsked command columns) gs → gs ≡ []
+none_by_column command columns [] apart h = refl
+none_by_column command columns (g ∷ gs) apart h = let asked = (All-head (IsAsked command columns) g gs h).asked in absurd cc
 
-most_queries : (command : CommandName) → most_times option.Query command ≤ 16
+none_alone : (qs : List Query) → All (λ (q : Query). may_ask name.Groups q ≡ true) qs → qs ≡ []
+none_alone [] h = refl
+none_alone (q ∷ qs) h = let asked = All-head (λ (q : Query). may_ask name.Groups q ≡ true) q qs h in absurd cc
+
+pub most_queries : (command : CommandName) → most_times option.Query command ≤ 16
 most_queries name.Tamper = omega arith
 most_queries name.Tree = omega arith
 most_queries _ = omega arith
 
 common_legal : (command : CommandName) (columns : List Column) (found : Found) → IsFound command columns found
-    → Fits (bits_in columns) (largest_in (bits_in columns)) → is_some_of found.queries ≡ true → IsCommon (common_of columns found)
-common_legal command columns found h room some = record {
+    → Fits (bits_in columns) (largest_in (bits_in columns)) → 0 < times_found found option.Query → asks_groups command ≡ false → IsCommon (common_of columns found)
+common_legal command columns found h room some apart = record {
   fits = unwrapped (Fits (bits_in columns)) found.capacity (largest_in (bits_in columns)) h.capacity room;
-  some = some_long found.queries some;
+  some = let none = ap length (none_by_column command columns found.groups apart h.groups) in omega (arith, some, none);
   few = omega (arith, h.queries, most_queries command);
   places = h.places;
   suits = h.suits;
@@ -333,32 +370,59 @@ legal_ranged words common (Some low) (Some high) c h one counts few e = by (nat_
         subst IsLegal (is_made (commands.Tree common low high) c _ refl q)
         (record { common = h; single = omega (arith, one, h.some); counts = counts; order = grind arith; few = few })
 
+legal_asked : (columns : List Column) (gs : List GroupQuery) → All (IsAsked name.Groups columns) gs → All (IsGroup columns) gs
+legal_asked columns gs h = λ i d lt. (h i d lt).legal
+
+groups_legal : (columns : List Column) (found : Found) → IsFound name.Groups columns found
+    → Fits (bits_in columns) (largest_in (bits_in columns)) → 0 < times_found found option.Query → IsGroups (common_of columns found) found.groups
+groups_legal columns found h room some =
+    let none = none_alone found.queries h.asked in
+    let empty = ap length none in
+    record {
+      fits = unwrapped (Fits (bits_in columns)) found.capacity (largest_in (bits_in columns)) h.capacity room;
+      alone = none;
+      some = omega (arith, some, empty);
+      few = omega (arith, h.queries);
+      each = legal_asked columns found.groups h.groups;
+      workers = unwrapped IsFew found.workers 1 h.workers one_few;
+    }
+
 legal_with : (words : List (List ℕ)) (command : CommandName) (columns : List Column) (found : Found) (c : Command) → IsFound command columns found
-    → IsCommon (common_of columns found) → command_with words command columns found ≡ Ok c → IsLegal c
-legal_with words name.Ask columns found c h common e = subst IsLegal (is_made (commands.Ask (common_of columns found)) c _ refl e) common
-legal_with words name.Replay columns found c h common e = legal_replayed (common_of columns found) found.schedule c common h.schedule e
-legal_with words name.Race columns found c h common e =
+    → Fits (bits_in columns) (largest_in (bits_in columns)) → 0 < times_found found option.Query → command_with words command columns found ≡ Ok c → IsLegal c
+legal_with words name.Ask columns found c h room some e =
+    subst IsLegal (is_made (commands.Ask (common_of columns found)) c _ refl e) (common_legal name.Ask columns found h room some refl)
+legal_with words name.Replay columns found c h room some e =
+    legal_replayed (common_of columns found) found.schedule c (common_legal name.Replay columns found h room some refl) h.schedule e
+legal_with words name.Race columns found c h room some e =
     subst IsLegal (is_made (commands.Race (common_of columns found) (unwrap_or found.writers 2) (unwrap_or found.askers 2) (unwrap_or found.rounds 1)) c _ refl e)
     (record {
-      common = common;
+      common = common_legal name.Race columns found h room some refl;
       writers = unwrapped IsFew found.writers 2 h.writers two_few;
       askers = unwrapped IsFew found.askers 2 h.askers two_few;
       rounds = unwrapped IsFew found.rounds 1 h.rounds one_few;
     })
-legal_with words name.Make columns found c h common e = legal_made (common_of columns found) found.number found.rows c common h.rows e
-legal_with words name.Trace columns found c h common e = subst IsLegal (is_made (commands.Trace (common_of columns found)) c _ refl e) common
-legal_with words name.Tamper columns found c h common e = legal_tampered (common_of columns found) found.shifts c common h.queries h.shifts h.moved e
-legal_with words name.Tree columns found c h common e = legal_ranged words (common_of columns found) found.from found.to c common h.queries h.asked h.to e
+legal_with words name.Make columns found c h room some e =
+    legal_made (common_of columns found) found.number found.rows c (common_legal name.Make columns found h room some refl) h.rows e
+legal_with words name.Trace columns found c h room some e =
+    subst IsLegal (is_made (commands.Trace (common_of columns found)) c _ refl e) (common_legal name.Trace columns found h room some refl)
+legal_with words name.Tamper columns found c h room some e =
+    let one : length found.queries ≤ 1 = let most = h.queries in omega arith in
+    legal_tampered (common_of columns found) found.shifts c (common_legal name.Tamper columns found h room some refl) one h.shifts h.moved e
+legal_with words name.Tree columns found c h room some e =
+    let one : length found.queries ≤ 1 = let most = h.queries in omega arith in
+    legal_ranged words (common_of columns found) found.from found.to c (common_legal name.Tree columns found h room some refl) one h.asked h.to e
+legal_with words name.Groups columns found c h room some e =
+    subst IsLegal (is_made (commands.Groups (common_of columns found) found.groups) c _ refl e) (groups_legal columns found h room some)
 
 legal_finished : (words : List (List ℕ)) (command : CommandName) (columns : List Column) (found : Found) (c : Command) → IsFound command columns found
     → Fits (bits_in columns) (largest_in (bits_in columns)) → finished words command columns found ≡ Ok c → IsLegal c
 unfolding finished
-legal_finished words command columns found c h room e = by (is_some_of found.queries) refl e
+legal_finished words command columns found c h room e = by (nat_lt 0 (times_found found option.Query)) refl e
   where
-    by : (t : Bool) → is_some_of found.queries ≡ t
+    by : (t : Bool) → nat_lt 0 (times_found found option.Query) ≡ t
         → (guard t (Missing (codes "--query")) >>= λ _. command_with words command columns found) ≡ Ok c → IsLegal c
     by false p q = absurd cc
-    by true p q = legal_with words command columns found c h (common_legal command columns found h room p) q
+    by true p q = legal_with words command columns found c h room (grind arith) q
 
 -- the command of options that are legal, where the greatest capacity fits
 pub legal_result : (words : List (List ℕ)) (command : CommandName) (columns : List Column) (found : Found) (r : Result Command WordFault) → IsFound command columns found

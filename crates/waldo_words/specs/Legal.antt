@@ -1,15 +1,16 @@
 -- What holds of every command that was read.
-use Rattle.std.specs.Prelude.{◌≡◌, ℕ, ◌<◌, ◌≤◌, true, List, All, length, IfSome}
+use Rattle.std.specs.Prelude.{◌≡◌, ℕ, ◌+◌, ◌<◌, ◌≤◌, true, List, [], All, length, IfSome}
 use Rattle.query_plan.specs.Query.{AreWidthsOf, Suits}
+use Rattle.query_plan.specs.declared.group.GroupQuery.{GroupQuery}
 use Rattle.query_plan.specs.declared.query.Query.{Query}
 use Rattle.table_schema.specs.Widths.{Fits}
 use Rattle.table_schema.specs.declared.schema.Column.{Column}
 use Rattle.table_schema.specs.declared.widths.Widths.{Widths}
-use Rattle.waldo_words.specs.Options.{may_ask, most_times, times_found}
+use Rattle.waldo_words.specs.Options.{asks_groups, may_ask, most_times, times_found}
 use Rattle.waldo_words.specs.Values.{bits_in}
 use Rattle.waldo_words.specs.declared.command.Common.{Common}
 use Rattle.waldo_words.specs.declared.command.Command.{Command}
-use Rattle.waldo_words.specs.declared.command.Command.TheVariants.{Ask, Replay, Race, Make, Trace, Tamper, Tree}
+use Rattle.waldo_words.specs.declared.command.Command.TheVariants.{Ask, Replay, Race, Make, Trace, Tamper, Tree, Groups}
 use Rattle.waldo_words.specs.declared.found.Found.{Found}
 use Rattle.waldo_words.specs.declared.names.CommandName.{CommandName}
 use Rattle.waldo_words.specs.declared.names.CommandName.TheVariants as name
@@ -48,6 +49,12 @@ pub record IsSchedule (schedule : List Step) : Type 0 where
 pub record IsShift (shift : ShiftWord) : Type 0 where
   pub message : shift.message ≤ 50
   pub word : shift.word < 65536
+
+-- a query by the buckets of a column, over these columns
+pub record IsGroup (columns : List Column) (group : GroupQuery) : Type 0 where
+  pub places : length group.query.predicates ≡ 4
+  pub suits : SuitsColumns columns group.query
+  pub there : group.column < length columns
 
 -- ---- commands
 
@@ -90,6 +97,15 @@ pub record IsTree (c : Common) (low high : ℕ) : Type 0 where
   pub order : low ≤ high
   pub few : high ≤ 65536
 
+-- queries by the buckets of a column, and no others
+pub record IsGroups (c : Common) (groups : List GroupQuery) : Type 0 where
+  pub fits : Fits (bits_in c.schema) c.capacity
+  pub alone : c.queries ≡ []
+  pub some : 1 ≤ length groups
+  pub few : length groups ≤ 16
+  pub each : All (IsGroup c.schema) groups
+  pub workers : IsFew c.workers
+
 -- what the layers above may rely on
 abbrev pub IsLegal : Command → Type 0
 IsLegal (Ask c) = IsCommon c
@@ -99,6 +115,7 @@ IsLegal (Make c number rows) = IsMake c rows
 IsLegal (Trace c) = IsCommon c
 IsLegal (Tamper c shifts) = IsTamper c shifts
 IsLegal (Tree c low high) = IsTree c low high
+IsLegal (Groups c groups) = IsGroups c groups
 
 -- ---- on the way there
 
@@ -108,9 +125,15 @@ pub record IsQuery (command : CommandName) (columns : List Column) (query : Quer
   pub suits : SuitsColumns columns query
   pub asked : may_ask command query ≡ true
 
+-- what holds of a query by the buckets of a column of a command
+pub record IsAsked (command : CommandName) (columns : List Column) (group : GroupQuery) : Type 0 where
+  pub legal : IsGroup columns group
+  pub asked : asks_groups command ≡ true
+
 -- what holds of the value of an option
 abbrev pub IsValue : CommandName → List Column → Value → Type 0
 IsValue command columns (value.Query query) = IsQuery command columns query
+IsValue command columns (value.Group group) = IsAsked command columns group
 IsValue command columns (value.Seed seed) = Unit {0}
 IsValue command columns (value.Capacity capacity) = Fits (bits_in columns) capacity
 IsValue command columns (value.Workers workers) = IsFew workers
@@ -126,10 +149,11 @@ IsValue command columns (value.To high) = high ≤ 65536
 
 -- what holds of all that the options have said so far
 pub record IsFound (command : CommandName) (columns : List Column) (found : Found) : Type 0 where
-  pub queries : length found.queries ≤ most_times option.Query command
+  pub queries : length found.queries + length found.groups ≤ most_times option.Query command
   pub places : All (λ (q : Query). length q.predicates ≡ 4) found.queries
   pub suits : All (SuitsColumns columns) found.queries
   pub asked : All (λ (q : Query). may_ask command q ≡ true) found.queries
+  pub groups : All (IsAsked command columns) found.groups
   pub capacity : IfSome found.capacity (Fits (bits_in columns))
   pub workers : IfSome found.workers IsFew
   pub schedule : IfSome found.schedule IsSchedule

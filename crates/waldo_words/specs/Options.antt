@@ -1,11 +1,12 @@
 -- The options: which command has which and how often, what values they take, and what they have said so far.
-use Rattle.std.specs.Prelude.{ℕ, ◌==◌, ◌&&◌, Bool, true, false, List, [], ◌∷◌}
+use Rattle.std.specs.Prelude.{ℕ, ◌+◌, ◌==◌, ◌&&◌, Bool, true, false, List, [], ◌∷◌}
 use Rattle.std.specs.Prelude.{◌++◌, length, Option, Some, None, option_map, if◌then◌else◌, codes}
 use Rattle.std.specs.Result.{result_ok}
 use Rattle.std.specs.Str.{bytes_eq}
 use Rattle.table_schema.specs.declared.schema.Column.{Column}
 use Rattle.table_schema.specs.declared.shapes.Aggregate.{Aggregate}
 use Rattle.table_schema.specs.declared.shapes.Aggregate.TheVariants.{Count, Sum}
+use Rattle.query_plan.specs.Grouping.{group_of}
 use Rattle.query_plan.specs.Reading.{query_of}
 use Rattle.query_plan.specs.declared.query.Query.{Query}
 use Rattle.waldo_words.specs.Shifts.{shift_of}
@@ -30,6 +31,7 @@ command_named word =
     else if bytes_eq word (codes "trace") then Some name.Trace
     else if bytes_eq word (codes "tamper") then Some name.Tamper
     else if bytes_eq word (codes "tree") then Some name.Tree
+    else if bytes_eq word (codes "groups") then Some name.Groups
     else None
 
 unfoldable pub option_named : List ℕ → Option OptionName
@@ -83,18 +85,29 @@ abbrev pub is_count : Aggregate → Bool
 is_count Count = true
 is_count Sum = false
 
--- whether a command asks such a query: `tree` a count with one predicate alone
+-- whether a command asks such a query: `tree` a count with one predicate alone, `groups` none that is not by a column
 abbrev pub may_ask : CommandName → Query → Bool
 may_ask name.Tree query = is_count query.aggregate && (query.count == 1)
+may_ask name.Groups query = false
 may_ask _ query = true
+
+-- whether a command asks queries by the buckets of a column
+abbrev pub asks_groups : CommandName → Bool
+asks_groups name.Groups = true
+asks_groups _ = false
 
 -- the query of a text, where the command may ask it
 unfoldable pub query_for : CommandName → List Column → List ℕ → Option Query
 query_for command columns text = result_ok (query_of columns text) >>= λ query. if may_ask command query then Some query else None
 
+-- the value of `--query` that a text is: for `groups` a query by the buckets of a column, else a query that the command may ask
+abbrev pub asked_for : CommandName → List Column → List ℕ → Option Value
+asked_for name.Groups columns text = option_map value.Group (result_ok (group_of columns text))
+asked_for command columns text = option_map value.Query (query_for command columns text)
+
 -- the value that a text is for an option of a command, over the columns of the table
 abbrev pub value_of : CommandName → List Column → OptionName → List ℕ → Option Value
-value_of command columns option.Query text = option_map value.Query (query_for command columns text)
+value_of command columns option.Query text = asked_for command columns text
 value_of command columns option.Seed text = option_map value.Seed (seed_of text)
 value_of command columns option.Capacity text = option_map value.Capacity (capacity_of columns text)
 value_of command columns option.Workers text = option_map value.Workers (number_within 1 16 text)
@@ -111,6 +124,7 @@ value_of command columns option.To text = option_map value.To (number_within 0 6
 -- the option whose value it is
 abbrev pub option_of : Value → OptionName
 option_of (value.Query query) = option.Query
+option_of (value.Group group) = option.Query
 option_of (value.Seed seed) = option.Seed
 option_of (value.Capacity capacity) = option.Capacity
 option_of (value.Workers workers) = option.Workers
@@ -129,6 +143,7 @@ option_of (value.To high) = option.To
 abbrev pub nothing_found : Found
 nothing_found = record {
   queries = [];
+  groups = [];
   seed = None;
   capacity = None;
   workers = None;
@@ -146,6 +161,7 @@ nothing_found = record {
 -- with one value more
 abbrev pub with_value : Found → Value → Found
 with_value found (value.Query query) = record found { queries = found.queries ++ query ∷ [] }
+with_value found (value.Group group) = record found { groups = found.groups ++ group ∷ [] }
 with_value found (value.Seed seed) = record found { seed = Some seed }
 with_value found (value.Capacity capacity) = record found { capacity = Some capacity }
 with_value found (value.Workers workers) = record found { workers = Some workers }
@@ -166,7 +182,7 @@ count_of (Some x) = 1
 
 -- how often an option has stood
 abbrev pub times_found : Found → OptionName → ℕ
-times_found found option.Query = length found.queries
+times_found found option.Query = length found.queries + length found.groups
 times_found found option.Seed = count_of found.seed
 times_found found option.Capacity = count_of found.capacity
 times_found found option.Workers = count_of found.workers

@@ -21,6 +21,7 @@ use Rattle.waldo_words.specs.declared.found.Found.{Found}
 use Rattle.waldo_words.specs.declared.names.CommandName.{CommandName}
 use Rattle.waldo_words.specs.declared.names.CommandName.TheVariants as name
 use Rattle.waldo_words.specs.declared.names.OptionName.{OptionName}
+use Rattle.waldo_words.specs.declared.names.OptionName.TheVariants as option
 use Rattle.waldo_words.specs.declared.progress.Progress.{Progress}
 use Rattle.waldo_words.specs.declared.schedule.Step.{Step}
 use Rattle.waldo_words.specs.declared.shifts.ShiftWord.{ShiftWord}
@@ -139,11 +140,12 @@ command_with words name.Make columns found = made (common_of columns found) foun
 command_with words name.Trace columns found = Ok (commands.Trace (common_of columns found))
 command_with words name.Tamper columns found = tampered (common_of columns found) found.shifts
 command_with words name.Tree columns found = ranged words (common_of columns found) found.from found.to
+command_with words name.Groups columns found = Ok (commands.Groups (common_of columns found) found.groups)
 
 -- every command wants a query, before all else
 unfoldable pub finished : List (List ℕ) → CommandName → List Column → Found → Result Command WordFault
 finished words command columns found =
-    guard (is_some_of found.queries) (Missing (codes "--query")) >>= λ _. command_with words command columns found
+    guard (nat_lt 0 (times_found found option.Query)) (Missing (codes "--query")) >>= λ _. command_with words command columns found
 
 -- nothing said yet
 abbrev pub beginning : Progress

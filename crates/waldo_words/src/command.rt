@@ -1,5 +1,6 @@
 //! What the words ask for.
 
+use crate::groups::Groups;
 use crate::queries::Queries;
 use crate::schedule::Schedule;
 use crate::shifts::ShiftWords;
@@ -7,7 +8,7 @@ use prg_chacha::Seed;
 use table_schema::Schema;
 
 /// What every command has: the columns of the table and how many rows it has room for, the master seed, how many workers
-/// scan (1 to 16), and the queries (1 to 16) in the order in which they stand.
+/// scan (1 to 16), and the queries in the order in which they stand (1 to 16; none where the command asks by buckets).
 #[derive(Drop)]
 pub struct Common {
     pub schema: Schema,
@@ -53,5 +54,10 @@ pub enum Command {
         common: Common,
         low: u64,
         high: u64,
+    },
+    /// Ask queries by the buckets of a column, 1 to 16 of them, over the rows of the input.
+    Groups {
+        common: Common,
+        groups: Groups,
     },
 }

@@ -31,6 +31,7 @@ pub(crate) fn finish(
 {
     let Found {
         queries,
+        groups,
         seed,
         capacity,
         workers,
@@ -45,7 +46,7 @@ pub(crate) fn finish(
         to,
     } = found;
     let capacity = capacity.unwrap_or(schema.widths().largest());
-    if queries.is_empty() {
+    if queries.is_empty() && groups.is_empty() {
         return Err(WordFault::missing(Name::Query));
     }
     let common = Common {
@@ -68,6 +69,7 @@ pub(crate) fn finish(
         CommandName::Trace => Ok(Command::Trace(common)),
         CommandName::Tamper => tamper(common, shifts),
         CommandName::Tree => tree(words, common, from, to),
+        CommandName::Groups => Ok(Command::Groups { common, groups }),
     }
 }
 

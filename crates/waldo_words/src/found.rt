@@ -1,7 +1,8 @@
 //! What the options have said so far.
-ghost use Rattle.std.specs.Prelude.{◌≡◌, IfOk};
+ghost use Rattle.std.specs.Prelude.{◌≡◌, ◌+◌, ◌≤◌, IfOk, length};
 ghost use Rattle.waldo_words.specs.Options.{count_of, nothing_found, times_found, with_value};
 
+use crate::groups::Groups;
 use crate::names::OptionName;
 use crate::queries::Queries;
 use crate::schedule::Schedule;
@@ -14,6 +15,7 @@ use std::alloc::{AllocError, Global};
 #[derive(Drop)]
 pub(crate) struct Found {
     pub queries: Queries,
+    pub groups: Groups,
     pub seed: Option<Seed>,
     pub capacity: Option<u32>,
     pub workers: Option<u8>,
@@ -45,6 +47,7 @@ impl Found {
     {
         Found {
             queries: Queries::new(alloc),
+            groups: Groups::new(alloc),
             seed: None,
             capacity: None,
             workers: None,
@@ -62,10 +65,11 @@ impl Found {
 
     /// How often an option has stood.
     pub fn times(&self, option: OptionName) -> usize
+        requires { length self.now.queries + length self.now.groups ≤ 16 }
         ensures { result ≡ times_found self.now option }
     {
         match option {
-            OptionName::Query => self.queries.len(),
+            OptionName::Query => self.queries.len() + self.groups.len(),
             OptionName::Seed => count(&self.seed),
             OptionName::Capacity => count(&self.capacity),
             OptionName::Workers => count(&self.workers),
@@ -87,6 +91,7 @@ impl Found {
     {
         match value {
             Value::Query(query) => self.queries.push(query)?,
+            Value::Group(group) => self.groups.push(group)?,
             Value::Seed(seed) => self.seed = Some(seed),
             Value::Capacity(capacity) => self.capacity = Some(capacity),
             Value::Workers(workers) => self.workers = Some(workers),

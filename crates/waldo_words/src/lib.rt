@@ -20,6 +20,7 @@ mod command;
 mod faults;
 mod finish;
 mod found;
+mod groups;
 mod names;
 mod numbers;
 mod progress;
@@ -33,6 +34,7 @@ mod value;
 
 pub use command::{Command, Common};
 pub use faults::WordFault;
+pub use groups::Groups;
 pub use queries::Queries;
 pub use read::read_words;
 pub use report_lines::{Name, NameText};

@@ -12,6 +12,7 @@ pub(crate) enum CommandName {
     Trace,
     Tamper,
     Tree,
+    Groups,
 }
 
 /// Which option it is.
@@ -51,6 +52,8 @@ pub(crate) fn command_name(word: &str) -> Option<CommandName>
         Some(CommandName::Tamper)
     } else if word == "tree" {
         Some(CommandName::Tree)
+    } else if word == "groups" {
+        Some(CommandName::Groups)
     } else {
         None
     }

@@ -2,8 +2,11 @@
 ghost use Rattle.std.specs.Prelude.{◌≡◌, IfOk, IfSome};
 ghost use Rattle.std.specs.Option.{ok_or};
 ghost use Rattle.text_reading.specs.Reading.{Gives};
-ghost use Rattle.waldo_words.specs.Legal.{IsQuery, IsValue};
-ghost use Rattle.waldo_words.specs.Options.{may_ask, option_of, query_for, value_of};
+ghost use Rattle.std.specs.Result.{result_ok};
+ghost use Rattle.query_plan.specs.Grouping.{group_of};
+ghost use Rattle.waldo_words.specs.Legal.{IsGroup, IsQuery, IsValue};
+ghost use Rattle.waldo_words.specs.Options.{asked_for, may_ask, option_of, query_for, value_of};
+ghost use Rattle.waldo_words.specs.declared.names.OptionName.TheVariants as option;
 ghost use Rattle.waldo_words.specs.declared.faults.ValueFault.TheVariants as fault;
 
 use crate::amounts::shift_word;
@@ -15,7 +18,7 @@ use crate::seeds::master_seed;
 use crate::shifts::ShiftWord;
 use crate::steps::read_schedule;
 use prg_chacha::Seed;
-use query_plan::{Query, read_query};
+use query_plan::{GroupQuery, Query, read_group, read_query};
 use std::alloc::Global;
 use table_schema::{Aggregate, Schema};
 
@@ -23,6 +26,7 @@ use table_schema::{Aggregate, Schema};
 #[derive(Drop)]
 pub(crate) enum Value {
     Query(Query),
+    Group(GroupQuery),
     Seed(Seed),
     Capacity(u32),
     Workers(u8),
@@ -37,7 +41,7 @@ pub(crate) enum Value {
     To(u64),
 }
 
-// Whether a command asks such a query: `tree` a count with one predicate alone.
+// Whether a command asks such a query: `tree` a count with one predicate alone, `groups` none that is not by a column.
 fn may_ask(command: CommandName, query: &Query) -> bool
     ensures { result ≡ may_ask command query.now }
 {
@@ -46,6 +50,7 @@ fn may_ask(command: CommandName, query: &Query) -> bool
             Aggregate::Count => query.count == 1,
             Aggregate::Sum => false,
         },
+        CommandName::Groups => false,
         _ => true,
     }
 }
@@ -67,6 +72,29 @@ fn query_for(command: CommandName, schema: &Schema, text: &str) -> Option<Query>
     }
 }
 
+// The query by the buckets of a column that a text is.
+fn group_for(schema: &Schema, text: &str) -> Option<GroupQuery>
+    ensures value { result ≡ result_ok (group_of schema.now text.now) }
+    ensures legal { IfSome result (IsGroup schema.now) }
+{
+    match read_group(schema, text) {
+        Ok(group) => Some(group),
+        Err(_) => None,
+    }
+}
+
+// The value of `--query` that a text is: for `groups` a query by the buckets of a column, else a query that the command may ask.
+fn asked_for(command: CommandName, schema: &Schema, text: &str) -> Option<Value>
+    ensures value { result ≡ asked_for command schema.now text.now }
+    ensures named { IfSome result (λ v. option_of v ≡ option.Query) }
+    ensures legal { IfSome result (IsValue command schema.now) }
+{
+    match command {
+        CommandName::Groups => Some(Value::Group(group_for(schema, text)?)),
+        _ => Some(Value::Query(query_for(command, schema, text)?)),
+    }
+}
+
 /// The value that a text is for an option of a command, over the columns of the table.
 pub(crate) fn read_value(
     alloc: Global,
@@ -82,7 +110,7 @@ pub(crate) fn read_value(
     let refused = ValueFault::Refused;
     let bytes = text.as_bytes();
     match option {
-        OptionName::Query => Ok(Value::Query(query_for(command, schema, text).ok_or(refused)?)),
+        OptionName::Query => Ok(asked_for(command, schema, text).ok_or(refused)?),
         OptionName::Seed => Ok(Value::Seed(master_seed(text).ok_or(refused)?)),
         OptionName::Capacity => Ok(Value::Capacity(capacity(schema, bytes).ok_or(refused)?)),
         OptionName::Workers => Ok(Value::Workers(few(bytes).ok_or(refused)?)),
