@@ -1,8 +1,8 @@
 """What the program has to answer to words and input: the rules of docs/formats.md, plainly and slowly, with no code of the program.
 
 `expected` gives the outcome; `Outcome.fault` says what is wrong with a status and a text, or None. Words and input are bytes. Messages,
-keys and shares play no part: where nothing is altered each answer is the plain count or sum, and what `trace` prints follows from the
-sizes alone. `tamper`, whose text needs the key, and `tree` are not known here.
+keys and shares play no part: where nothing is altered each answer is the plain count or sum, over all rows or over those of a bucket, and
+what `trace` prints follows from the sizes alone. `tamper`, whose text needs the key, and `tree` are not known here.
 
 The records of an input are not read by Python's own `csv`, which differs from the kit's: it keeps a byte order mark, gives an empty
 record for an empty line, and refuses a carriage return inside an unquoted field and, in earlier versions, a byte of 0.
@@ -17,6 +17,7 @@ MOST_CELLS = 4_194_304
 Column = collections.namedtuple("Column", "name bits start step")
 Query = collections.namedtuple("Query", "aggregate predicates")
 Predicate = collections.namedtuple("Predicate", "column low high kind")  # a column's number, its lowest and highest bucket, a key's kind
+Group = collections.namedtuple("Group", "query column")  # a query, and the number of the column by whose buckets it is answered
 Command = collections.namedtuple("Command", "name columns queries options")
 
 
@@ -90,6 +91,14 @@ def read_query(text, columns):
     return Query(aggregate.decode(), predicates)
 
 
+def read_group(text, columns):
+    """A query, ` by ` and a column's name; None where the text is none."""
+    *pieces, by, name = [b"", *text.split(b" ")]
+    names = [column.name for column in columns]
+    query = read_query(b" ".join(pieces[1:]), columns)
+    return Group(query, names.index(name)) if by == b"by" and name in names and query else None
+
+
 def read_step(token):
     """The letter of a step, its actor and its other number, if it has one; None where the token is no step."""
     form = re.fullmatch(rb"(?:([df])([0-9]+)|([pla])([0-9]+)\.([0-9]+))", token)
@@ -144,7 +153,10 @@ COMMANDS = {
     b"race": ([b"--query"], EVERY + [b"--writers", b"--askers", b"--rounds", b"--capacity"]),
     b"make": ([b"--query", b"--number", b"--rows"], EVERY + [b"--number", b"--rows"]),
     b"trace": ([b"--query"], EVERY + [b"--capacity"]),
+    b"groups": ([b"--query"], EVERY + [b"--capacity"]),
 }
+# Values that a command reads in a way of its own.
+OWN_VALUES = {(b"groups", b"--query"): read_group}
 KEY_WORDS = {"point": (3, 3), "comparison": (3, 4), "interval": (6, 8)}  # how many words a key has, and how many more for each bit
 CHUNK = 64
 
@@ -179,7 +191,7 @@ def read_options(words, known, columns):
             value = words[at]
             if value.startswith(b"-"):
                 raise bad_word(at)
-        read = OPTIONS[name][0](value, columns)
+        read = OWN_VALUES.get((words[0], name), OPTIONS[name][0])(value, columns)
         if read is None:
             raise bad_word(at)
         found[name].append(read)
@@ -278,10 +290,20 @@ def made_rows(columns, first, count):
             for i in range(count)]
 
 
-def answer(who, query, rows):
+def total(query, rows):
     passing = [row for row in rows if all(p.low <= row[p.column] <= p.high for p in query.predicates)]
-    total = sum(row[-1] for row in passing) if query.aggregate == "sum" else len(passing)
-    return f"{who} rows {len(rows)} {query.aggregate} {total}\n"
+    return sum(row[-1] for row in passing) if query.aggregate == "sum" else len(passing)
+
+
+def answer(who, query, rows):
+    return f"{who} rows {len(rows)} {query.aggregate} {total(query, rows)}\n"
+
+
+def grouped(index, group, columns, rows):
+    """A line for each bucket of the group's column: the query over the rows that have it."""
+    parts = [[row for row in rows if row[group.column] == which] for which in range(1 << columns[group.column].bits)]
+    return "".join(f"group {index} bucket {which} rows {len(rows)} {group.query.aggregate} {total(group.query, part)}\n"
+                   for which, part in enumerate(parts))
 
 
 def traced(index, query, columns, count):
@@ -415,6 +437,8 @@ def done(command, data):
         return Outcome(0, race=(names, rows, *counts, queries))
     if command.name == b"trace":
         return Outcome(0, "".join(traced(i, query, command.columns, len(rows)) for i, query in enumerate(command.queries)).encode())
+    if command.name == b"groups":
+        return Outcome(0, "".join(grouped(i, group, command.columns, rows) for i, group in enumerate(command.queries)).encode())
     return Outcome(0, "".join(answer(f"ask {i}", query, rows) for i, query in enumerate(command.queries)).encode())
 
 

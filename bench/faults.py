@@ -42,6 +42,8 @@ RUNS = [
     ("tamper", command("tamper", *QUERY, "--shift", "6:0:1"), INPUT),
     ("tree", command("tree", *QUERY, "--from", "0", "--to", "3"), INPUT),
     ("tree of too few rows", command("tree", *QUERY, "--from", "1", "--to", "4"), INPUT),
+    ("groups", command("groups", "--query", "sum host<=3 by host", "--query", "count host=3 by host"), INPUT),
+    ("groups by 4 workers", command("groups", "--query", "sum host=0..2 by host", "--workers", "4"), rows(70)),
     ("a refused word", command("ask", "--query", "count host=4"), INPUT),
     ("a refused step", command("replay", *QUERY, "--schedule", "d0 d0"), INPUT),
     ("a refused row", command("ask", *QUERY), INPUT + b"4,1\n"),

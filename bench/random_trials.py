@@ -72,6 +72,13 @@ def query_text(chance, columns):
     return b" ".join(pieces)
 
 
+def group_text(chance, columns):
+    """A query by the buckets of a column; one in 40 without what has to be at its end."""
+    name = chance.choice(columns).name
+    end = chance.choice([b"", b" by", b" " + name, b" by  " + name, b" by y", b" By " + name]) if chance.one_in(40) else b" by " + name
+    return query_text(chance, columns) + end
+
+
 def field_text(chance, text):
     if chance.one_in(15):
         return b'"' + text + b'"'
@@ -110,7 +117,8 @@ def schedule_text(chance, rows, queries):
 
 def options_of(chance, name, columns, count):
     """The options of a command, (name, value) each."""
-    queries = [query_text(chance, columns) for _ in range(chance.choice([1, 1, 2, 3, 16 if count < 70 else 4]))]
+    made_text = group_text if name == b"groups" else query_text
+    queries = [made_text(chance, columns) for _ in range(chance.choice([1, 1, 2, 3, 16 if count < 70 else 4]))]
     made = [(b"--query", text) for text in queries]
     if name == b"replay":
         made.append((b"--schedule", schedule_text(chance, count, len(queries))))
@@ -153,7 +161,7 @@ def spoil_words(chance, words):
 def case_of(seed, number):
     """Words and an input."""
     chance = Chance(f"{seed}/{number}")
-    name = chance.choice([b"ask"] * 4 + [b"replay"] * 5 + [b"make"] * 2 + [b"race", b"trace"])
+    name = chance.choice([b"ask"] * 4 + [b"replay"] * 5 + [b"make"] * 2 + [b"groups"] * 2 + [b"race", b"trace"])
     columns = columns_of(chance)
     count = chance.choice([0, 1, 2, 3, 3, 4, 5, 6, 8, 12, 20])
     if chance.one_in(12):

@@ -35,13 +35,7 @@ use visit_trace::Trace;
 use wire_line::Wire;
 
 // The line of a bucket.
-fn bucket_line(
-    index: u64,
-    rows: u64,
-    aggregate: Aggregate,
-    bucket: u8,
-    answer: GroupAnswer,
-) -> Line
+fn bucket_line(index: u64, rows: u64, aggregate: Aggregate, bucket: u8, answer: GroupAnswer) -> Line
     ensures { result ≡ bucket_line index rows aggregate bucket answer }
 {
     match answer {

@@ -101,9 +101,7 @@ fn race_bytes<R: Threads + Wait + Sync, W: Wire + Send, G: Gate + Sync>(
     let rows = read_rows(alloc, &common.schema, common.capacity, &bytes);
     drop(bytes); // the rows stand for them
     match rows {
-        Ok(rows) => race_rows(
-            rt, alloc, common, crew, &widths, &rows, gate, wires, trace,
-        ),
+        Ok(rows) => race_rows(rt, alloc, common, crew, &widths, &rows, gate, wires, trace),
         Err(fault) => refused_rows(alloc, fault),
     }
 }
