@@ -1,5 +1,5 @@
 -- Races that say equal numbers of rows look alike.
-use Rattle.std.proofs.Common.{◌≡◌, ◌∙◌, refl, sym, ap, ℕ, zero, suc, ◌+◌, ◌%◌, List, [], ◌∷◌, ◌++◌, length, Option, Some, None}
+use Rattle.std.proofs.Common.{◌≡◌, ◌∙◌, refl, sym, ap, ℕ, zero, suc, ◌+◌, ◌%◌, List, [], ◌∷◌, ◌++◌, length}
 use Rattle.std.specs.Prelude.{map, slice_get}
 use Rattle.std.proofs.lemmas.List.{length-map, map-append}
 use Rattle.prg_chacha.specs.declared.seed.Seed.{Seed}
@@ -9,7 +9,6 @@ use Rattle.table_schema.specs.declared.shapes.Shape.{Shape}
 use Rattle.table_schema.specs.declared.widths.Widths.{Widths}
 use Rattle.visit_trace.specs.Expected.{trace_of}
 use Rattle.visit_trace.specs.Growing.{seen_then}
-use Rattle.visit_trace.specs.Seen.{AllSeen}
 use Rattle.race_play.specs.Laws.{RacesLookAlike}
 use Rattle.race_play.specs.Questions.{Question, at_end, ends_of, in_round, question_of, rounds_of}
 use Rattle.race_play.specs.Seen.{all_questions, all_rounds, asked_seen, rounds_from, rows_answered}

@@ -1,6 +1,6 @@
 //! Askers at once, each in a thread of its own with a pass and a wire of its own.
 ghost use denote.Param.Send.{IsSend, IsSync};
-ghost use Rattle.std.specs.Prelude.{◌≡◌, ◌<◌, ◌≤◌, ◌+◌, IfOk, OnErr, length};
+ghost use Rattle.std.specs.Prelude.{◌<◌, ◌≤◌, ◌+◌, IfOk, OnErr, length};
 ghost use Rattle.race_play.specs.Asking.{AsksAll, AsksOne, CanAsk};
 ghost use Rattle.race_play.specs.Heard.{JoinsFirst, JoinsHeard, JoinsSaid};
 ghost use Rattle.visit_trace.specs.Seen.{Grew, alike, nothing};

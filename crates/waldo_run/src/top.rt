@@ -105,8 +105,8 @@ pub fn run<R: Threads + Wait + Sync, S: Source, K: Sink, W: Wire + Send, G: Gate
     // Every command but `race`: the trace grew as `run_still` says.
     ensures trace { begin_race (map string_bytes words.now) ≡ false
         → Traces (command_at (map string_bytes words.now)) (change S.sight source.old source.new) trace.old trace.new result }
-    // A race: `raced` says that it grew by what the servers see of the answers in the report. Out of memory it stays, or grew by a prefix of
-    // what they see of the race's first queries.
+    // A race: `raced` says that it grew by what the servers see of the answers in the report. Out of memory it stays, or grew by a prefix
+    // of what they see of the race's first queries.
     ensures trace_first { begin_race (map string_bytes words.now) ≡ true → result ≡ 6
         → SeesUpTo (command_at (map string_bytes words.now)) trace.old trace.new }
 {
