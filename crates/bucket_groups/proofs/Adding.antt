@@ -1,15 +1,16 @@
 -- Sums that are made row by row.
 use Rattle.std.proofs.Math.Seq.{take-append_seam, drop-append-add}
-use Rattle.std.proofs.lemmas.List.{drop-append-le, take-append-le, length-drop, get_or-take, get_or-drop}
+use Rattle.std.proofs.lemmas.List.{drop-append-le, take-append-le, length-drop, length-take, get_or-take, get_or-drop}
 use Rattle.std.proofs.lemmas.Nat.{mul-le}
-use Rattle.std.proofs.Common.{take, drop, ◌++◌, ◌≡◌, ◌∙◌, refl, sym, ap, ℕ, zero, suc, ◌+◌, ◌*◌, ◌%◌, ◌^◌, ◌<◌, ◌≤◌, List, [], ◌∷◌, length, get_or, All, arith}
+use Rattle.std.proofs.Common.{take, drop, ◌++◌, ◌≡◌, ◌∙◌, refl, sym, ap, ℕ, zero, suc, ◌+◌, ◌-◌, ◌*◌, ◌%◌, ◌^◌, ◌<◌, ◌≤◌, List, [], ◌∷◌, length, get_or, All, arith}
+use Rattle.std.specs.List.{AllZip}
 use Rattle.list_facts.specs.Listed.{listed}
 use Rattle.list_facts.proofs.Listed.{length-listed, get_or-listed, listed_is, listed_same}
 use Rattle.ring128.specs.Ring.{plus, times, dot_of, sums, sums3}
 use Rattle.ring128.proofs.Laws.{length-sums}
 use Rattle.share_product.specs.Product.{local_of, inner_of}
 use Rattle.scan_chunks.specs.Pieces.{row_of, chunk_of}
-use Rattle.scan_chunks.proofs.Chunks.{row_in_chunk}
+use Rattle.scan_chunks.proofs.Chunks.{row_in_chunk, rows_in}
 use Rattle.bucket_groups.specs.Ending.{places_of, sums_of, with_rows}
 
 -- the sum of the first numbers
@@ -181,6 +182,10 @@ added_all old a a' x y e =
 part_at : (n k i : ℕ) (xs : List ℕ) → i < k → get_or (take k (drop n xs)) i 0 ≡ get_or xs (n + i) 0
 part_at n k i xs h = get_or-take k (drop n xs) i 0 h ∙ get_or-drop n xs i 0
 
+-- a pair a row of a chunk
+pub pairs_long : (c rows count : ℕ) (a : List ℕ) → length a ≡ rows → count ≡ rows_in rows c → length (take (64 * c + count - 64 * c) (drop (64 * c) a)) ≡ rows_in rows c
+pairs_long c rows count a e is = omega (arith, length-take (64 * c + count - 64 * c) (drop (64 * c) a), length-drop (64 * c) a, e, is)
+
 -- the rows of a chunk
 pub chunk_rows : (c k w : ℕ) (a a' x y f s u v : List ℕ) → k ≤ 64 → f ≡ take k (drop (64 * c) a) → s ≡ take k (drop (64 * c) a')
     → u ≡ chunk_of w c x → v ≡ chunk_of w c y → AreRows (64 * c) k w a a' x y f s u v
@@ -224,6 +229,25 @@ shelf_rows n k w a a' x y u v f s ex ey ef es = record {
   near = λ i h. sym (row_after w i n x u ex);
   far = λ i h. sym (row_after w i n y v ey);
 }
+
+-- the shelves so far, and one more: of the rows only their pairs are taken
+pub shelf_more : (from k w : ℕ) (a a' x y u v before f s after : List ℕ) → length x ≡ from * w → length y ≡ from * w
+    → before ≡ listed w (λ b. cell_sum a a' x y w b from) → from + k ≤ length a → from + k ≤ length a'
+    → f ≡ take (from + k - from) (drop from a) → s ≡ take (from + k - from) (drop from a') → after ≡ with_rows before f s u v
+    → after ≡ listed w (λ b. cell_sum a a' (x ++ u) (y ++ v) w b (from + k))
+shelf_more from k w a a' x y u v before f s after ex ey e ha ha' ef es made =
+    let part : from + k - from ≡ k = omega arith in
+    let f' : f ≡ take k (drop from a) = ef ∙ ap (λ (m : ℕ). take m (drop from a)) part in
+    let s' : s ≡ take k (drop from a') = es ∙ ap (λ (m : ℕ). take m (drop from a')) part in
+    let lf : length f ≡ k = ap length f' ∙ omega (arith, length-take k (drop from a), length-drop from a) in
+    let ls : length s ≡ k = ap length s' ∙ omega (arith, length-take k (drop from a'), length-drop from a') in
+    sums_added from k w a a' (x ++ u) (y ++ v) before f s u v after (cells_front from w a a' x y u v before ex ey e) lf ls
+    (shelf_rows from k w a a' x y u v f s ex ey f' s') made
+
+-- each shelf as it was
+pub zip_same : {A : Type 0} (Q : A → A → Type 0) → ((x : A) → Q x x) → (xs : List A) → AllZip Q xs xs
+zip_same Q same [] = tt
+zip_same Q same (x ∷ xs) = (same x, zip_same Q same xs)
 
 -- a vector that was changed in place
 pub put_back : (len : ℕ) (now before : List ℕ) → len ≡ length before → length now ≡ length before → take len (now ++ drop (length now) before) ≡ now

@@ -87,14 +87,10 @@ pub(crate) fn bucket_part<S: Shelf>(
         (pieces_of (map S.held shelves.old.items)) (first_of held.now server) (second_of held.now server)) }
     ensures visits { AreVisited S.held S.visited (column ∷ []) shelves.old.items shelves.new.items result }
 {
+    let pairs = held.of_server(server);
+    let (first, second) = (pairs.first.as_slice(), pairs.second.as_slice());
     let width = width(&ready.widths(), column);
-    let sums = bucket_sums(
-        alloc,
-        held.of_server(server),
-        column,
-        width,
-        shelves.as_mut_slice(),
-    )?;
+    let sums = bucket_sums(alloc, first, second, column, width, shelves.as_mut_slice())?;
     let start = counter(33, run);
     Ok(with_zeros(sums, ready.zero(server), start))
 }

@@ -8,7 +8,7 @@ ghost use Rattle.share_product.specs.Product.{local_of};
 ghost use Rattle.scan_chunks.specs.Scan.{visits_of, VisitsPart};
 ghost use Rattle.bucket_groups.specs.Ending.{sums_of, with_rows};
 
-use replicated_share::{Pair, PairList};
+use replicated_share::Pair;
 use ring128::{Memory, Words, add};
 use scan_chunks::{Shelf, row};
 use share_product::local;
@@ -89,28 +89,29 @@ fn add_shelf<S: Shelf>(
     Ok(())
 }
 
-/// For each bucket, the sum over a server's rows of the local products of their pairs with the pairs of their cells of the bucket.
+/// For each bucket, the sum over a server's rows, with a pair a row, of the local products with the pairs of their cells of the bucket.
 /// Each chunk of the column is visited once, rising. The only error is out of memory; each shelf's visits are then the first of its
 /// own.
 pub(crate) fn bucket_sums<S: Shelf>(
     alloc: Global,
-    held: &PairList,
+    first: &[u128],
+    second: &[u128],
     column: u8,
     width: usize,
     shelves: &mut [S],
 ) -> Result<Words, Memory>
     requires column { All (λ s. column ≤ (S.held s).columns) shelves.old }
     requires wide { All (λ s. (S.held s).width column ≡ width) shelves.old }
-    requires rows { length held.now.first ≡ total (λ s. (S.held s).rows) shelves.old }
+    requires first { length first.now ≡ total (λ s. (S.held s).rows) shelves.old }
+    requires second { length second.now ≡ length first.now }
     requires narrow { width ≤ 256 }
     ensures held { AllZip (λ s t. S.held t ≡ S.held s) shelves.old shelves.new }
-    ensures sums { IfOk result (λ words. words ≡ sums_of (length held.now.first) width held.now.first held.now.second
+    ensures sums { IfOk result (λ words. words ≡ sums_of (length first.now) width first.now second.now
         (flat_map (λ s. (S.held s).pieces.first column) shelves.old) (flat_map (λ s. (S.held s).pieces.second column) shelves.old)) }
     ensures visits { OnOk result (AllZip (λ s t. S.visited t ≡ S.visited s ++ visits_of (S.held s) column) shelves.old shelves.new) }
     ensures part { OnErr result (AllZip
         (λ s t. VisitsPart (S.visited s) (S.visited t) (visits_of (S.held s) column)) shelves.old shelves.new) }
 {
-    let (first, second) = (held.first.as_slice(), held.second.as_slice());
     let mut sums = vec![in alloc; 0; width]?;
     let mut from = 0;
     for i in 0..shelves.len() {
