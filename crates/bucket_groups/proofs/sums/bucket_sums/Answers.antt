@@ -1,4 +1,4 @@
-use Rattle.std.proofs.Common.{◌≡◌, ◌∙◌, refl, ap, sym, ◌++◌, ◌+◌, ◌-◌, ◌≤◌, ◌<◌, ◌*◌, ◌^◌, ℕ, List, All, get_or, take, drop, length, replicate, rules, arith}
+use Rattle.std.proofs.Common.{◌≡◌, ◌∙◌, refl, ap, sym, ◌++◌, ◌+◌, ◌-◌, ◌≤◌, ◌<◌, ◌*◌, ◌^◌, ℕ, List, [], All, get_or, take, drop, length, replicate, rules, arith}
 use Rattle.std.proofs.lemmas.List.{get_or-replicate, length-replicate, take_all}
 use Rattle.std.specs.List.{flat_map}
 use Rattle.list_facts.specs.Count.{total}
@@ -25,6 +25,8 @@ pub loop-i-init : goal.loop-i-init
 loop-i-init g c =
     let w = c.args.width in
     let none : 0 ≡ 0 * w = omega arith in
+    let a = c.args.first.now in
+    let b = c.args.second.now in
     let free : c.in_ok-sums.sums.items ≡ replicate w 0 = c.in_ok-sums.ensures.items_if_clones_equal (λ y same. same) in
     record {
       scanned = tt;
@@ -32,7 +34,7 @@ loop-i-init g c =
       from = refl;
       first = none;
       second = none;
-      sums = no_rows w _ _ _ _ _ (ap length free ∙ length-replicate w 0) (λ b k. ap (λ (l : List ℕ). get_or l b 0) free ∙ get_or-replicate w b 0 0 k);
+      sums = no_rows w a b [] [] c.in_ok-sums.sums.items (ap length free ∙ length-replicate w 0) (λ b k. ap (λ (l : List ℕ). get_or l b 0) free ∙ get_or-replicate w b 0 0 k);
     }
 
 pub overflow_add-to : goal.overflow_add-to
@@ -126,8 +128,8 @@ loop-i-preserved g c =
     let rows : (held (get_or old i d)).rows ≡ count = sym (c.rows.ensures.value ∙ ap (λ s. (held s).rows) e) in
     let there = c.requires.column i d below in
     let wide = c.requires.wide i d below in
-    let x : length ((held (get_or old i d)).pieces.first column) ≡ count * w = rw (wide, rows) at shelf.first column there in
-    let y : length ((held (get_or old i d)).pieces.second column) ≡ count * w = rw (wide, rows) at shelf.second column there in
+    let x : length ((held (get_or old i d)).pieces.first column) ≡ count * w = shelf.first column there ∙ ap (λ (m : ℕ). (held (get_or old i d)).rows * m) wide ∙ ap (λ (m : ℕ). m * w) rows in
+    let y : length ((held (get_or old i d)).pieces.second column) ≡ count * w = shelf.second column there ∙ ap (λ (m : ℕ). (held (get_or old i d)).rows * m) wide ∙ ap (λ (m : ℕ). m * w) rows in
     let both : (from + count) * w ≡ from * w + count * w = omega arith in
     let X = flat_map (λ s. (held s).pieces.first column) (take i old) in
     let Y = flat_map (λ s. (held s).pieces.second column) (take i old) in
