@@ -1,13 +1,17 @@
 -- Sums that are made row by row.
-use Rattle.std.proofs.Math.Seq.{take-append_seam}
-use Rattle.std.proofs.Common.{take, drop, ◌++◌, ◌≡◌, ◌∙◌, refl, sym, ap, ℕ, zero, suc, ◌+◌, ◌*◌, ◌%◌, ◌^◌, ◌<◌, List, [], ◌∷◌, length, get_or, arith}
+use Rattle.std.proofs.Math.Seq.{take-append_seam, drop-append-add}
+use Rattle.std.proofs.lemmas.List.{drop-append-le, take-append-le, length-drop, length-take, get_or-take, get_or-drop}
+use Rattle.std.proofs.lemmas.Nat.{mul-le}
+use Rattle.std.proofs.Common.{take, drop, ◌++◌, ◌≡◌, ◌∙◌, refl, sym, ap, ℕ, zero, suc, ◌+◌, ◌-◌, ◌*◌, ◌%◌, ◌^◌, ◌<◌, ◌≤◌, List, [], ◌∷◌, length, get_or, All, arith}
+use Rattle.std.specs.List.{AllZip}
 use Rattle.list_facts.specs.Listed.{listed}
 use Rattle.list_facts.proofs.Listed.{length-listed, get_or-listed, listed_is, listed_same}
 use Rattle.ring128.specs.Ring.{plus, times, dot_of, sums, sums3}
 use Rattle.ring128.proofs.Laws.{length-sums}
 use Rattle.share_product.specs.Product.{local_of, inner_of}
-use Rattle.scan_chunks.specs.Pieces.{row_of}
-use Rattle.bucket_groups.specs.Ending.{places_of}
+use Rattle.scan_chunks.specs.Pieces.{row_of, chunk_of}
+use Rattle.scan_chunks.proofs.Chunks.{row_in_chunk, rows_in}
+use Rattle.bucket_groups.specs.Ending.{places_of, sums_of, with_rows}
 
 -- the sum of the first numbers
 abbrev pub sum_to : (ℕ → ℕ) → ℕ → ℕ
@@ -53,31 +57,197 @@ inner_to n a a' b b' e f g h =
     rw (dot_to n a b e g, dot_to n a b' e h, dot_to n a' b f g)
     (sym (three_sums (λ i. times (get_or a i 0) (get_or b i 0)) (λ i. times (get_or a i 0) (get_or b' i 0)) (λ i. times (get_or a' i 0) (get_or b i 0)) n))
 
-pub all_rows : (n w : ℕ) (a a' x y : List ℕ) → length a ≡ n → length a' ≡ n
-    → listed w (λ b. cell_sum a a' x y w b n) ≡ listed w (λ b. inner_of a a' (places_of n w b x) (places_of n w b y))
-all_rows n w a a' x y e f =
-    listed_same w _ _
-    (λ b _.
-    sum_to_same (λ i. local_of (get_or a i 0) (get_or a' i 0) (get_or (row_of w i x) b 0) (get_or (row_of w i y) b 0))
-    (λ i. local_of (get_or a i 0) (get_or a' i 0) (get_or (places_of n w b x) i 0) (get_or (places_of n w b y) i 0)) n
-    (λ i h. rw (get_or-listed n i (λ i. get_or (row_of w i x) b 0) 0 h, get_or-listed n i (λ i. get_or (row_of w i y) b 0) 0 h))
-    ∙ sym (inner_to n a a' (places_of n w b x) (places_of n w b y) e f (length-listed n _) (length-listed n _)))
+-- the same for the cells of a bucket
+inner_is : (n w b : ℕ) (a a' x y : List ℕ) → length a ≡ n → length a' ≡ n → inner_of a a' (places_of n w b x) (places_of n w b y) ≡ cell_sum a a' x y w b n
+inner_is n w b a a' x y e f =
+    inner_to n a a' (places_of n w b x) (places_of n w b y) e f (length-listed n _) (length-listed n _)
+    ∙ sum_to_same
+    (λ i. local_of (get_or a i 0) (get_or a' i 0) (get_or (places_of n w b x) i 0) (get_or (places_of n w b y) i 0))
+    (λ i. local_of (get_or a i 0) (get_or a' i 0) (get_or (row_of w i x) b 0) (get_or (row_of w i y) b 0)) n
+    (λ i h. rw (get_or-listed n i (λ i. get_or (row_of w i x) b 0) 0 h, get_or-listed n i (λ i. get_or (row_of w i y) b 0) 0 h) refl)
 
+pub all_rows : (n w : ℕ) (a a' x y : List ℕ) → length a ≡ n → length a' ≡ n → listed w (λ b. cell_sum a a' x y w b n) ≡ sums_of n w a a' x y
+all_rows n w a a' x y e f =
+    listed_same w _ _ (λ b _. sym (inner_is n w b a a' x y e f))
+
+-- no rows yet
 pub no_rows : (w : ℕ) (a a' x y zeros : List ℕ) → length zeros ≡ w → ((b : ℕ) → b < w → get_or zeros b 0 ≡ 0) → zeros ≡ listed w (λ b. cell_sum a a' x y w b 0)
 no_rows w a a' x y zeros long none = listed_is w (λ b. cell_sum a a' x y w b 0) 0 zeros long none
 
--- a row more
-pub row_more : (w i : ℕ) (a a' x y before : List ℕ) (p q : ℕ) (near far : List ℕ) → before ≡ listed w (λ b. cell_sum a a' x y w b i)
-    → p ≡ get_or a i 0 → q ≡ get_or a' i 0 → near ≡ row_of w i x → far ≡ row_of w i y
-    → listed (length before) (λ b. plus (get_or before b 0) (local_of p q (get_or near b 0) (get_or far b 0))) ≡ listed w (λ b. cell_sum a a' x y w b (i + 1))
-row_more w i a a' x y before p q near far e0 e1 e2 e3 e4 =
-    ap (λ (n : ℕ). listed n (λ b. plus (get_or before b 0) (local_of p q (get_or near b 0) (get_or far b 0)))) (ap length e0 ∙ length-listed w _)
+-- the sums of some rows are numbers of the ring
+pub sums_small : (w i : ℕ) (a a' x y sums : List ℕ) → sums ≡ listed w (λ b. cell_sum a a' x y w b i) → All (λ n. n < 2 ^ 128) sums
+sums_small w i a a' x y sums e = λ k d h.
+    let there : k < w = omega (arith, ap length e, length-listed w (λ b. cell_sum a a' x y w b i)) in
+    let at : get_or sums k d ≡ cell_sum a a' x y w k i = ap (λ (l : List ℕ). get_or l k d) e ∙ get_or-listed w k (λ b. cell_sum a a' x y w b i) d there in
+    let below = sum_to-below (λ i. local_of (get_or a i 0) (get_or a' i 0) (get_or (row_of w i x) k 0) (get_or (row_of w i y) k 0)) i in
+    omega (arith, at, below)
+
+-- sums to which those of the first i rows were added
+abbrev pub added_to : List ℕ → List ℕ → List ℕ → List ℕ → List ℕ → ℕ → List ℕ
+added_to old a a' x y i = let w = length old in listed w (λ b. plus (get_or old b 0) (cell_sum a a' x y w b i))
+
+pub added_none : (old a a' x y : List ℕ) → All (λ n. n < 2 ^ 128) old → old ≡ added_to old a a' x y 0
+added_none old a a' x y small =
+    listed_is (length old) (λ b. plus (get_or old b 0) 0) 0 old refl (λ b h. let s = small b 0 h in omega (arith, s))
+
+pub added_small : (old a a' x y sums : List ℕ) (i : ℕ) → sums ≡ added_to old a a' x y i → All (λ n. n < 2 ^ 128) sums
+added_small old a a' x y sums i e = λ k d h.
+    let w = length old in
+    let f : ℕ → ℕ = λ b. plus (get_or old b 0) (cell_sum a a' x y w b i) in
+    let there : k < w = omega (arith, ap length e, length-listed w f) in
+    let at : get_or sums k d ≡ f k = ap (λ (l : List ℕ). get_or l k d) e ∙ get_or-listed w k f d there in
+    omega (arith, at)
+
+pub added_long : (old a a' x y sums : List ℕ) (i : ℕ) → sums ≡ added_to old a a' x y i → length sums ≡ length old
+added_long old a a' x y sums i e = ap length e ∙ length-listed (length old) _
+
+-- more is added at each bucket
+at_buckets : (w : ℕ) (before : List ℕ) (g part h : ℕ → ℕ) → before ≡ listed w g → ((b : ℕ) → b < w → plus (g b) (part b) ≡ h b)
+    → listed (length before) (λ b. plus (get_or before b 0) (part b)) ≡ listed w h
+at_buckets w before g part h e same =
+    ap (λ (n : ℕ). listed n (λ b. plus (get_or before b 0) (part b))) (ap length e ∙ length-listed w g)
     ∙ listed_same w _ _
-    (λ b h.
-    ap (λ (l : List ℕ). plus (get_or l b 0) (local_of p q (get_or near b 0) (get_or far b 0))) e0
-    ∙ ap (λ (m : ℕ). plus m (local_of p q (get_or near b 0) (get_or far b 0))) (get_or-listed w b (λ b. cell_sum a a' x y w b i) 0 h)
-    ∙ rw (e1, e2, e3, e4)
-    (sym (sum_to_more (λ i. local_of (get_or a i 0) (get_or a' i 0) (get_or (row_of w i x) b 0) (get_or (row_of w i y) b 0)) i)))
+    (λ b k. ap (λ (l : List ℕ). plus (get_or l b 0) (part b)) e ∙ ap (λ (m : ℕ). plus m (part b)) (get_or-listed w b g 0 k) ∙ same b k)
+
+-- a row more
+pub row_more : (i : ℕ) (old a a' x y before : List ℕ) (p q : ℕ) (near far : List ℕ) → before ≡ added_to old a a' x y i
+    → p ≡ get_or a i 0 → q ≡ get_or a' i 0 → near ≡ row_of (length old) i x → far ≡ row_of (length old) i y
+    → listed (length before) (λ b. plus (get_or before b 0) (local_of p q (get_or near b 0) (get_or far b 0))) ≡ added_to old a a' x y (i + 1)
+row_more i old a a' x y before p q near far e0 e1 e2 e3 e4 =
+    let w = length old in
+    at_buckets w before (λ b. plus (get_or old b 0) (cell_sum a a' x y w b i)) (λ b. local_of p q (get_or near b 0) (get_or far b 0)) _ e0
+    (λ b _.
+    let more = sum_to_more (λ i. local_of (get_or a i 0) (get_or a' i 0) (get_or (row_of w i x) b 0) (get_or (row_of w i y) b 0)) i in
+    rw (e1, e2, e3, e4) (omega (arith, more)))
+
+-- some rows, and k more
+sum_to_split : (f : ℕ → ℕ) (n k : ℕ) → plus (sum_to f n) (sum_to (λ i. f (n + i)) k) ≡ sum_to f (n + k)
+sum_to_split f n zero =
+    let none : sum_to (λ i. f (n + i)) 0 ≡ 0 = refl in
+    let at : n + 0 ≡ n = omega arith in
+    rw (none, at) (omega (arith, sum_to-below f n))
+sum_to_split f n (suc k) = let e : n + suc k ≡ suc (n + k) = omega arith in rw e (omega (arith, sum_to_split f n k))
+
+-- the rows from n on are these
+pub record AreRows (n k w : ℕ) (a a' x y f s u v : List ℕ) : Type 0 where
+  pub first : (i : ℕ) → i < k → get_or f i 0 ≡ get_or a (n + i) 0
+  pub second : (i : ℕ) → i < k → get_or s i 0 ≡ get_or a' (n + i) 0
+  pub near : (i : ℕ) → i < k → row_of w i u ≡ row_of w (n + i) x
+  pub far : (i : ℕ) → i < k → row_of w i v ≡ row_of w (n + i) y
+
+cells_more : (n k w b : ℕ) (a a' x y f s u v : List ℕ) → AreRows n k w a a' x y f s u v
+    → plus (cell_sum a a' x y w b n) (cell_sum f s u v w b k) ≡ cell_sum a a' x y w b (n + k)
+cells_more n k w b a a' x y f s u v rows =
+    ap (λ (m : ℕ). plus (cell_sum a a' x y w b n) m)
+    (sum_to_same (λ i. local_of (get_or f i 0) (get_or s i 0) (get_or (row_of w i u) b 0) (get_or (row_of w i v) b 0))
+    (λ i. local_of (get_or a (n + i) 0) (get_or a' (n + i) 0) (get_or (row_of w (n + i) x) b 0) (get_or (row_of w (n + i) y) b 0)) k
+    (λ i h. rw (rows.first i h, rows.second i h, rows.near i h, rows.far i h) refl))
+    ∙ sum_to_split (λ i. local_of (get_or a i 0) (get_or a' i 0) (get_or (row_of w i x) b 0) (get_or (row_of w i y) b 0)) n k
+
+-- the sums so far, with those of more rows
+pub rows_added : (n k : ℕ) (old a a' x y before f s u v after : List ℕ) → before ≡ added_to old a a' x y n → length f ≡ k → length s ≡ k
+    → AreRows n k (length old) a a' x y f s u v → after ≡ with_rows before f s u v → after ≡ added_to old a a' x y (n + k)
+rows_added n k old a a' x y before f s u v after e ef es rows made =
+    let w = length old in
+    let long : length before ≡ w = added_long old a a' x y before n e in
+    made
+    ∙ at_buckets w before (λ b. plus (get_or old b 0) (cell_sum a a' x y w b n))
+    (λ b. inner_of f s (places_of (length f) (length before) b u) (places_of (length f) (length before) b v))
+    (λ b. plus (get_or old b 0) (cell_sum a a' x y w b (n + k))) e
+    (λ b _.
+    let part : inner_of f s (places_of (length f) (length before) b u) (places_of (length f) (length before) b v) ≡ cell_sum f s u v w b k =
+    rw (long, ef) (inner_is k w b f s u v ef es) in
+    omega (arith, part, cells_more n k w b a a' x y f s u v rows))
+
+pub sums_added : (n k w : ℕ) (a a' x y before f s u v after : List ℕ) → before ≡ listed w (λ b. cell_sum a a' x y w b n) → length f ≡ k → length s ≡ k
+    → AreRows n k w a a' x y f s u v → after ≡ with_rows before f s u v → after ≡ listed w (λ b. cell_sum a a' x y w b (n + k))
+sums_added n k w a a' x y before f s u v after e ef es rows made =
+    let long : length before ≡ w = ap length e ∙ length-listed w _ in
+    made
+    ∙ at_buckets w before (λ b. cell_sum a a' x y w b n)
+    (λ b. inner_of f s (places_of (length f) (length before) b u) (places_of (length f) (length before) b v))
+    (λ b. cell_sum a a' x y w b (n + k)) e
+    (λ b _.
+    let part : inner_of f s (places_of (length f) (length before) b u) (places_of (length f) (length before) b v) ≡ cell_sum f s u v w b k =
+    rw (long, ef) (inner_is k w b f s u v ef es) in
+    ap (λ (m : ℕ). plus (cell_sum a a' x y w b n) m) part ∙ cells_more n k w b a a' x y f s u v rows)
+
+-- what was added of all rows
+pub added_all : (old a a' x y : List ℕ) → length a' ≡ length a → added_to old a a' x y (length a) ≡ with_rows old a a' x y
+added_all old a a' x y e =
+    let w = length old in
+    listed_same w _ _ (λ b _. ap (λ (m : ℕ). plus (get_or old b 0) m) (sym (inner_is (length a) w b a a' x y refl e)))
+
+-- numbers of a part of a list
+part_at : (n k i : ℕ) (xs : List ℕ) → i < k → get_or (take k (drop n xs)) i 0 ≡ get_or xs (n + i) 0
+part_at n k i xs h = get_or-take k (drop n xs) i 0 h ∙ get_or-drop n xs i 0
+
+-- a pair a row of a chunk
+pub pairs_long : (c rows count : ℕ) (a : List ℕ) → length a ≡ rows → count ≡ rows_in rows c → length (take (64 * c + count - 64 * c) (drop (64 * c) a)) ≡ rows_in rows c
+pairs_long c rows count a e is = omega (arith, length-take (64 * c + count - 64 * c) (drop (64 * c) a), length-drop (64 * c) a, e, is)
+
+-- the rows of a chunk
+pub chunk_rows : (c k w : ℕ) (a a' x y f s u v : List ℕ) → k ≤ 64 → f ≡ take k (drop (64 * c) a) → s ≡ take k (drop (64 * c) a')
+    → u ≡ chunk_of w c x → v ≡ chunk_of w c y → AreRows (64 * c) k w a a' x y f s u v
+chunk_rows c k w a a' x y f s u v few ef es eu ev = record {
+  first = λ i h. ap (λ (l : List ℕ). get_or l i 0) ef ∙ part_at (64 * c) k i a h;
+  second = λ i h. ap (λ (l : List ℕ). get_or l i 0) es ∙ part_at (64 * c) k i a' h;
+  near = λ i h. ap (row_of w i) eu ∙ row_in_chunk w c i x (omega arith);
+  far = λ i h. ap (row_of w i) ev ∙ row_in_chunk w c i y (omega arith);
+}
+
+-- a row of the first rows, and one of those after them
+row_before : (w i m : ℕ) (xs us : List ℕ) → length xs ≡ m * w → i < m → row_of w i (xs ++ us) ≡ row_of w i xs
+row_before w i m xs us e h =
+    let room : (i + 1) * w ≤ m * w = mul-le (i + 1) w m w (omega arith) (omega arith) in
+    let start : i * w ≤ length xs = omega (arith, room) in
+    let fits : w ≤ length (drop (i * w) xs) = omega (arith, length-drop (i * w) xs, room) in
+    ap (take w) (drop-append-le (i * w) xs us start) ∙ take-append-le w (drop (i * w) xs) us fits
+
+row_after : (w i m : ℕ) (xs us : List ℕ) → length xs ≡ m * w → row_of w (m + i) (xs ++ us) ≡ row_of w i us
+row_after w i m xs us e =
+    let at : (m + i) * w ≡ length xs + i * w = omega arith in
+    ap (λ (n : ℕ). take w (drop n (xs ++ us))) at ∙ ap (take w) (drop-append-add xs us (i * w))
+
+-- the sums of the first rows don't change where cells are appended
+pub cells_front : (n w : ℕ) (a a' x y u v before : List ℕ) → length x ≡ n * w → length y ≡ n * w → before ≡ listed w (λ b. cell_sum a a' x y w b n)
+    → before ≡ listed w (λ b. cell_sum a a' (x ++ u) (y ++ v) w b n)
+cells_front n w a a' x y u v before ex ey e =
+    e
+    ∙ listed_same w _ _
+    (λ b _.
+    sum_to_same (λ i. local_of (get_or a i 0) (get_or a' i 0) (get_or (row_of w i x) b 0) (get_or (row_of w i y) b 0))
+    (λ i. local_of (get_or a i 0) (get_or a' i 0) (get_or (row_of w i (x ++ u)) b 0) (get_or (row_of w i (y ++ v)) b 0)) n
+    (λ i h. rw (row_before w i n x u ex h, row_before w i n y v ey h) refl))
+
+-- the rows of a shelf
+pub shelf_rows : (n k w : ℕ) (a a' x y u v f s : List ℕ) → length x ≡ n * w → length y ≡ n * w → f ≡ take k (drop n a) → s ≡ take k (drop n a')
+    → AreRows n k w a a' (x ++ u) (y ++ v) f s u v
+shelf_rows n k w a a' x y u v f s ex ey ef es = record {
+  first = λ i h. ap (λ (l : List ℕ). get_or l i 0) ef ∙ part_at n k i a h;
+  second = λ i h. ap (λ (l : List ℕ). get_or l i 0) es ∙ part_at n k i a' h;
+  near = λ i h. sym (row_after w i n x u ex);
+  far = λ i h. sym (row_after w i n y v ey);
+}
+
+-- the shelves so far, and one more: of the rows only their pairs are taken
+pub shelf_more : (from k w : ℕ) (a a' x y u v before f s after : List ℕ) → length x ≡ from * w → length y ≡ from * w
+    → before ≡ listed w (λ b. cell_sum a a' x y w b from) → from + k ≤ length a → from + k ≤ length a'
+    → f ≡ take (from + k - from) (drop from a) → s ≡ take (from + k - from) (drop from a') → after ≡ with_rows before f s u v
+    → after ≡ listed w (λ b. cell_sum a a' (x ++ u) (y ++ v) w b (from + k))
+shelf_more from k w a a' x y u v before f s after ex ey e ha ha' ef es made =
+    let part : from + k - from ≡ k = omega arith in
+    let f' : f ≡ take k (drop from a) = ef ∙ ap (λ (m : ℕ). take m (drop from a)) part in
+    let s' : s ≡ take k (drop from a') = es ∙ ap (λ (m : ℕ). take m (drop from a')) part in
+    let lf : length f ≡ k = ap length f' ∙ omega (arith, length-take k (drop from a), length-drop from a) in
+    let ls : length s ≡ k = ap length s' ∙ omega (arith, length-take k (drop from a'), length-drop from a') in
+    sums_added from k w a a' (x ++ u) (y ++ v) before f s u v after (cells_front from w a a' x y u v before ex ey e) lf ls
+    (shelf_rows from k w a a' x y u v f s ex ey f' s') made
+
+-- each shelf as it was
+pub zip_same : {A : Type 0} (Q : A → A → Type 0) → ((x : A) → Q x x) → (xs : List A) → AllZip Q xs xs
+zip_same Q same [] = tt
+zip_same Q same (x ∷ xs) = (same x, zip_same Q same xs)
 
 -- a vector that was changed in place
 pub put_back : (len : ℕ) (now before : List ℕ) → len ≡ length before → length now ≡ length before → take len (now ++ drop (length now) before) ≡ now

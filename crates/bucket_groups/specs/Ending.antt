@@ -1,5 +1,5 @@
 -- How a run ends that gives a number for each bucket of a column.
-use Rattle.std.specs.Prelude.{ℕ, ◌+◌, ◌*◌, List, slice_index}
+use Rattle.std.specs.Prelude.{ℕ, ◌+◌, ◌*◌, List, length, slice_index}
 use Rattle.list_facts.specs.Listed.{listed}
 use Rattle.prg_chacha.specs.declared.seed.Seed.{Seed}
 use Rattle.ring128.specs.Ring.{plus}
@@ -32,6 +32,17 @@ abbrev pub value_words : Sizes → ℕ → View → Pieces → List ℕ → List
 value_words z run view pieces first second =
     let value = z.widths.columns in
     local_rows_of first second (pieces.first value) (pieces.second value) view.own view.next ((32 + 2 * run) * 65536)
+
+-- for each of `width` buckets, the sum over `n` rows of the local products of their pairs with their cells of the bucket
+abbrev pub sums_of : ℕ → ℕ → List ℕ → List ℕ → List ℕ → List ℕ → List ℕ
+sums_of n width first second x y = listed width (λ b. inner_of first second (places_of n width b x) (places_of n width b y))
+
+-- the sums of the buckets, with those of some more rows
+abbrev pub with_rows : List ℕ → List ℕ → List ℕ → List ℕ → List ℕ → List ℕ
+with_rows sums first second x y =
+    let n = length first in
+    let width = length sums in
+    listed width (λ b. plus (slice_index sums b) (inner_of first second (places_of n width b x) (places_of n width b y)))
 
 -- the openings, a number a bucket: the sum over the rows of the local products with the cells of the bucket, and a zero part
 abbrev pub bucket_words : Sizes → ℕ → ℕ → View → Pieces → List ℕ → List ℕ → List ℕ

@@ -4,3 +4,4 @@ pub mod Laws
 pub mod Rounds
 pub mod Check
 pub mod Seen
+pub mod AtOnce

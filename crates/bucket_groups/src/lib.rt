@@ -2,9 +2,9 @@
 //! bucket.
 #![tactic(auto)]
 
+mod at_once;
 mod check;
 pub mod laws;
-mod noted;
 mod part;
 mod rounds;
 mod run;

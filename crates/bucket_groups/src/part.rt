@@ -1,16 +1,16 @@
 //! What one server sends after the products of the bits.
 ghost use Rattle.std.specs.Prelude.{◌≡◌, ◌+◌, ◌*◌, ◌^◌, ◌<◌, ◌≤◌, [], ◌∷◌, map, length, IfOk};
 ghost use Rattle.onehot_column.specs.Code.{width_of};
+ghost use Rattle.server_rounds.specs.Groups.{AreLong, first_of, second_of};
 ghost use Rattle.server_rounds.specs.Plans.{views_of};
 ghost use Rattle.server_rounds.specs.Shelves.{AreShelves, pieces_of};
 ghost use Rattle.server_rounds.specs.Visits.{AreVisited};
 ghost use Rattle.bucket_groups.specs.Ending.{bucket_words, value_words};
 
 use crate::sums::bucket_sums;
-use replicated_share::PairList;
 use ring128::{Memory, Words};
 use scan_chunks::Shelf;
-use server_rounds::{Ready, with_zeros};
+use server_rounds::{Held, Ready, with_zeros};
 use share_product::local_rows;
 use std::alloc::Global;
 use table_schema::Widths;
@@ -40,23 +40,29 @@ pub(crate) fn value_part<S: Shelf>(
     ready: &Ready,
     server: u8,
     shelves: &mut Vec<S>,
-    chain: &PairList,
+    chain: &Held,
     run: u8,
 ) -> Result<Words, Memory>
     requires server { server < 3 }
     requires run { run < 2 }
-    requires chain { length chain.now.first ≡ ready.now.plan.rows }
+    requires chain { AreLong ready.now.plan.rows chain.now }
     requires shelves { AreShelves ready.now.plan.widths ready.now.plan.rows (map S.held shelves.old.items) }
     ensures held { map S.held shelves.new.items ≡ map S.held shelves.old.items }
     ensures long { IfOk result (λ w. length w ≡ ready.now.plan.rows) }
     ensures words { IfOk result (λ w. w ≡ value_words ready.now.plan run (views_of ready.now.keys server)
-        (pieces_of (map S.held shelves.old.items)) chain.now.first chain.now.second) }
+        (pieces_of (map S.held shelves.old.items)) (first_of chain.now server) (second_of chain.now server)) }
     ensures visits { AreVisited S.held S.visited (ready.now.plan.widths.columns ∷ []) shelves.old.items shelves.new.items result }
 {
     ready.rows();
     let values = ready.cells(alloc, shelves, ready.widths().columns)?;
     let start = counter(32, run);
-    let words = local_rows(alloc, chain, &values, ready.zero(server), start)?;
+    let words = local_rows(
+        alloc,
+        chain.of_server(server),
+        &values,
+        ready.zero(server),
+        start,
+    )?;
     Ok(words)
 }
 
@@ -66,24 +72,25 @@ pub(crate) fn bucket_part<S: Shelf>(
     ready: &Ready,
     server: u8,
     shelves: &mut Vec<S>,
-    held: &PairList,
+    held: &Held,
     column: u8,
     run: u8,
 ) -> Result<Words, Memory>
     requires server { server < 3 }
     requires run { run < 2 }
     requires column { column < ready.now.plan.widths.columns }
-    requires chain { length held.now.first ≡ ready.now.plan.rows }
+    requires chain { AreLong ready.now.plan.rows held.now }
     requires shelves { AreShelves ready.now.plan.widths ready.now.plan.rows (map S.held shelves.old.items) }
     ensures held { map S.held shelves.new.items ≡ map S.held shelves.old.items }
     ensures long { IfOk result (λ w. length w ≡ width_of ready.now.plan.widths column) }
     ensures words { IfOk result (λ w. w ≡ bucket_words ready.now.plan column run (views_of ready.now.keys server)
-        (pieces_of (map S.held shelves.old.items)) held.now.first held.now.second) }
+        (pieces_of (map S.held shelves.old.items)) (first_of held.now server) (second_of held.now server)) }
     ensures visits { AreVisited S.held S.visited (column ∷ []) shelves.old.items shelves.new.items result }
 {
-    ready.rows();
-    let cells = ready.cells(alloc, shelves, column)?;
-    let sums = bucket_sums(alloc, held, &cells, width(&ready.widths(), column))?;
+    let pairs = held.of_server(server);
+    let (first, second) = (pairs.first.as_slice(), pairs.second.as_slice());
+    let width = width(&ready.widths(), column);
+    let sums = bucket_sums(alloc, first, second, column, width, shelves.as_mut_slice())?;
     let start = counter(33, run);
     Ok(with_zeros(sums, ready.zero(server), start))
 }

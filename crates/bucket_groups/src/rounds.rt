@@ -16,18 +16,21 @@ ghost use Rattle.visit_trace.specs.Sizes.{opened_columns};
 ghost use Rattle.bucket_groups.specs.Rounds.{AreOpened, AreValued, IsValuePart, buckets_of, values_of};
 ghost use Rattle.bucket_groups.specs.Seen.{buckets_part, values_part};
 
-use crate::noted::note_last;
-use crate::part::{bucket_part, value_part};
+use crate::at_once::{buckets_at_once, values_at_once};
 use ring128::{Memory, Words, add_into};
 use scan_chunks::Shelf;
-use server_rounds::{Held, Ready, Servers, Trio, Way, carry_three, reshare};
+use server_rounds::{
+    Held, Ready, Servers, Trio, Way, all_three, carry_three, note_last, reshare_noted,
+};
 use std::alloc::Global;
+use std::thread::Threads;
 use table_schema::Aggregate;
 use visit_trace::Trace;
 use wire_line::Wire;
 
 // The products with the values, and the pairs that the servers then hold of them.
-fn value_round<S: Shelf, W: Wire>(
+fn value_round<R: Threads + Sync, S: Shelf + Send, W: Wire>(
+    rt: &R,
     alloc: Global,
     ready: &Ready,
     chain: &Held,
@@ -54,17 +57,25 @@ fn value_round<S: Shelf, W: Wire>(
         × IfOk result (λ held. AreReshared held ms) }
     ensures trace { GrewBy trace.old trace.new (bits_part ready.now.plan ready.now.plan.widths.columns) result }
 {
-    let zero = value_part(alloc, ready, 0, &mut shelves.zero, chain.zero(), run)?;
-    let one = value_part(alloc, ready, 1, &mut shelves.one, chain.one(), run)?;
-    let two = value_part(alloc, ready, 2, &mut shelves.two, chain.two(), run)?;
-    note_last(trace, shelves)?;
-    let held = reshare(alloc, wire, trace, Trio { zero, one, two })?;
+    let (zero, others) = values_at_once(
+        rt,
+        alloc,
+        ready,
+        chain,
+        run,
+        &mut shelves.zero,
+        &mut shelves.one,
+        &mut shelves.two,
+    );
+    let words = all_three(zero, others)?;
+    let held = reshare_noted(alloc, shelves, wire, trace, words)?;
     Ok(held)
 }
 
 /// What the servers hold before the openings: where rows are counted, the products of the bits; where values are summed, their
 /// products with the values.
-pub(crate) fn before_buckets<S: Shelf, W: Wire>(
+pub(crate) fn before_buckets<R: Threads + Sync, S: Shelf + Send, W: Wire>(
+    rt: &R,
     alloc: Global,
     ready: &Ready,
     chain: Held,
@@ -95,7 +106,7 @@ pub(crate) fn before_buckets<S: Shelf, W: Wire>(
     match ready.aggregate() {
         Aggregate::Count => Ok(chain),
         Aggregate::Sum => {
-            let held = value_round(alloc, ready, &chain, shelves, wire, trace, run)?;
+            let held = value_round(rt, alloc, ready, &chain, shelves, wire, trace, run)?;
             Ok(held)
         }
     }
@@ -118,7 +129,8 @@ fn opened<W: Wire>(wire: &mut W, trace: &mut Trace, words: Trio) -> Result<Words
 }
 
 /// The openings, and the sums of the words that the client received, one a bucket.
-pub(crate) fn bucket_round<S: Shelf, W: Wire>(
+pub(crate) fn bucket_round<R: Threads + Sync, S: Shelf + Send, W: Wire>(
+    rt: &R,
     alloc: Global,
     ready: &Ready,
     column: u8,
@@ -146,10 +158,19 @@ pub(crate) fn bucket_round<S: Shelf, W: Wire>(
         × IfOk result (λ totals. AreOpened ms totals) }
     ensures trace { GrewBy trace.old trace.new (buckets_part ready.now.plan column) result }
 {
-    let zero = bucket_part(alloc, ready, 0, &mut shelves.zero, held.zero(), column, run)?;
-    let one = bucket_part(alloc, ready, 1, &mut shelves.one, held.one(), column, run)?;
-    let two = bucket_part(alloc, ready, 2, &mut shelves.two, held.two(), column, run)?;
+    let (zero, others) = buckets_at_once(
+        rt,
+        alloc,
+        ready,
+        held,
+        column,
+        run,
+        &mut shelves.zero,
+        &mut shelves.one,
+        &mut shelves.two,
+    );
+    let words = all_three(zero, others)?;
     note_last(trace, shelves)?;
-    let totals = opened(wire, trace, Trio { zero, one, two })?;
+    let totals = opened(wire, trace, words)?;
     Ok(totals)
 }

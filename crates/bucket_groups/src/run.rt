@@ -64,8 +64,8 @@ fn run_groups<R: Threads + Sync, S: Shelf + Send, W: Wire>(
 {
     let product = run_products(rt, alloc, ready, run, shelves, wire, trace)?;
     let chain = product.into_chain();
-    let held = before_buckets(alloc, ready, chain, shelves, wire, trace, run)?;
-    let totals = bucket_round(alloc, ready, column, &held, shelves, wire, trace, run)?;
+    let held = before_buckets(rt, alloc, ready, chain, shelves, wire, trace, run)?;
+    let totals = bucket_round(rt, alloc, ready, column, &held, shelves, wire, trace, run)?;
     Ok(totals)
 }
 

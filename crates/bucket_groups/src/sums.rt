@@ -1,13 +1,16 @@
-//! Sums over rows, bucket by bucket.
-ghost use Rattle.std.specs.Prelude.{◌≡◌, ◌*◌, ◌+◌, ◌<◌, ◌≤◌, length, slice_index, IfOk};
+//! Sums over rows, bucket by bucket, added up as a server's shelves lend their cells.
+ghost use Rattle.std.specs.Prelude.{◌≡◌, ◌*◌, ◌^◌, ◌++◌, ◌<◌, ◌≤◌, length, slice_index, All, IfOk, OnOk, OnErr};
+ghost use Rattle.std.specs.List.{AllZip, flat_map};
+ghost use Rattle.list_facts.specs.Count.{total};
 ghost use Rattle.list_facts.specs.Listed.{listed};
 ghost use Rattle.ring128.specs.Ring.{plus};
-ghost use Rattle.share_product.specs.Product.{local_of, inner_of};
-ghost use Rattle.bucket_groups.specs.Ending.{places_of};
+ghost use Rattle.share_product.specs.Product.{local_of};
+ghost use Rattle.scan_chunks.specs.Scan.{visits_of, VisitsPart};
+ghost use Rattle.bucket_groups.specs.Ending.{sums_of, with_rows};
 
-use replicated_share::{Pair, PairList};
+use replicated_share::Pair;
 use ring128::{Memory, Words, add};
-use scan_chunks::row;
+use scan_chunks::{Shelf, row};
 use share_product::local;
 use std::alloc::Global;
 
@@ -27,33 +30,101 @@ fn add_row(to: &mut [u128], by: Pair, first: &[u128], second: &[u128])
     }
 }
 
-/// For each bucket, the sum over the rows of the local products of their pairs with the pairs of their cells of the bucket. The
-/// cells are those of a column of this width, row after row. The only error is out of memory.
-pub(crate) fn bucket_sums(
-    alloc: Global,
-    held: &PairList,
-    cells: &PairList,
-    width: usize,
-) -> Result<Words, Memory>
-    requires few { length held.now.first ≤ 65536 }
-    requires narrow { width ≤ 256 }
-    requires cells { length cells.now.first ≡ length held.now.first * width }
-    ensures { let n = length held.now.first in
-        IfOk result (λ words. words ≡ listed width (λ b. inner_of held.now.first held.now.second
-        (places_of n width b cells.now.first) (places_of n width b cells.now.second))) }
+// Adds the rows of a chunk, whose cells are `near` and `far`, with a pair a row.
+fn add_chunk(sums: &mut [u128], first: &[u128], second: &[u128], near: &[u128], far: &[u128])
+    requires small { All (λ n. n < 2 ^ 128) sums.old }
+    requires second { length second.now ≡ length first.now }
+    requires near { length near.now ≡ length first.now * length sums.old }
+    requires far { length far.now ≡ length first.now * length sums.old }
+    ensures { sums.new ≡ with_rows sums.old first.now second.now near.now far.now }
 {
-    let (first, second) = (held.first.as_slice(), held.second.as_slice());
-    let (cells_first, cells_second) = (cells.first.as_slice(), cells.second.as_slice());
-    let count = first.len();
-    let mut sums = vec![in alloc; 0; width]?;
+    let (count, width) = (first.len(), sums.len());
     for i in 0..count {
         let by = Pair {
             first: first[i],
             second: second[i],
         };
-        let near = row(cells_first, i, count, width);
-        let far = row(cells_second, i, count, width);
-        add_row(&mut sums, by, near, far);
+        add_row(
+            sums,
+            by,
+            row(near, i, count, width),
+            row(far, i, count, width),
+        );
+    }
+}
+
+// Adds the rows of a shelf, with a pair a row. Each chunk of the column is visited once, rising.
+fn add_shelf<S: Shelf>(
+    sums: &mut [u128],
+    column: u8,
+    first: &[u128],
+    second: &[u128],
+    shelf: &mut S,
+) -> Result<(), Memory>
+    requires small { All (λ n. n < 2 ^ 128) sums.old }
+    requires column { column ≤ (S.held shelf.old).columns }
+    requires wide { (S.held shelf.old).width column ≡ length sums.old }
+    requires first { length first.now ≡ (S.held shelf.old).rows }
+    requires second { length second.now ≡ (S.held shelf.old).rows }
+    ensures held { S.held shelf.new ≡ S.held shelf.old }
+    ensures sums { let pieces = (S.held shelf.old).pieces in
+        OnOk result (sums.new ≡ with_rows sums.old first.now second.now (pieces.first column) (pieces.second column)) }
+    ensures visits { OnOk result (S.visited shelf.new ≡ S.visited shelf.old ++ visits_of (S.held shelf.old) column) }
+    ensures part { OnErr result (VisitsPart (S.visited shelf.old) (S.visited shelf.new) (visits_of (S.held shelf.old) column)) }
+{
+    let rows = shelf.rows() as usize;
+    let start = shelf.first();
+    for c in 0..rows.div_ceil(64) {
+        let lent = shelf.chunk(start + c as u32, column)?;
+        let from = 64 * c;
+        let count = 64.min(rows - from);
+        add_chunk(
+            sums,
+            &first[from..from + count],
+            &second[from..from + count],
+            lent.first,
+            lent.second,
+        );
+    }
+    Ok(())
+}
+
+/// For each bucket, the sum over a server's rows, with a pair a row, of the local products with the pairs of their cells of the bucket.
+/// Each chunk of the column is visited once, rising. The only error is out of memory; each shelf's visits are then the first of its
+/// own.
+pub(crate) fn bucket_sums<S: Shelf>(
+    alloc: Global,
+    first: &[u128],
+    second: &[u128],
+    column: u8,
+    width: usize,
+    shelves: &mut [S],
+) -> Result<Words, Memory>
+    requires column { All (λ s. column ≤ (S.held s).columns) shelves.old }
+    requires wide { All (λ s. (S.held s).width column ≡ width) shelves.old }
+    requires first { length first.now ≡ total (λ s. (S.held s).rows) shelves.old }
+    requires second { length second.now ≡ length first.now }
+    requires narrow { width ≤ 256 }
+    ensures held { AllZip (λ s t. S.held t ≡ S.held s) shelves.old shelves.new }
+    ensures sums { IfOk result (λ words. words ≡ sums_of (length first.now) width first.now second.now
+        (flat_map (λ s. (S.held s).pieces.first column) shelves.old) (flat_map (λ s. (S.held s).pieces.second column) shelves.old)) }
+    ensures visits { OnOk result (AllZip (λ s t. S.visited t ≡ S.visited s ++ visits_of (S.held s) column) shelves.old shelves.new) }
+    ensures part { OnErr result (AllZip
+        (λ s t. VisitsPart (S.visited s) (S.visited t) (visits_of (S.held s) column)) shelves.old shelves.new) }
+{
+    let mut sums = vec![in alloc; 0; width]?;
+    let mut from = 0;
+    for i in 0..shelves.len() {
+        let shelf = &mut shelves[i];
+        let to = from + shelf.rows() as usize;
+        add_shelf(
+            &mut sums,
+            column,
+            &first[from..to],
+            &second[from..to],
+            shelf,
+        )?;
+        from = to;
     }
     Ok(Words::from_vec(sums))
 }

@@ -1,21 +1,25 @@
-use Rattle.std.proofs.Common.{[], ◌∷◌, ap, length, map, ◌∙◌, ◌≡◌}
+use Rattle.std.proofs.Common.{[], ◌∷◌, ap, sym, length, map, ◌∙◌, ◌≡◌}
 use Rattle.list_facts.proofs.Listed.{length-listed}
 use Rattle.table_schema.specs.declared.widths.Widths.{Widths}
+use Rattle.server_rounds.specs.Groups.{first_of, second_of}
 use Rattle.server_rounds.specs.Plans.{views_of}
 use Rattle.server_rounds.specs.Shelves.{pieces_of}
+use Rattle.server_rounds.proofs.Parts.{held_long}
 use Rattle.bucket_groups.proofs.Parts.{value_is}
 use Rattle.server_rounds.proofs.Visiting.{visited_stopped}
 use Rattle.bucket_groups.proofs.Visiting.{made_begun}
 use Rattle.bucket_groups.proofs.part.value_part.Goals as goal
 
 pub returns-clause-long : goal.returns-clause-long
-returns-clause-long g c = ap length c.in_ok-words.ensures ∙ length-listed _ _ ∙ c.requires.chain
+returns-clause-long g c =
+    ap length c.in_ok-words.ensures ∙ length-listed _ _ ∙ ap length c.of_server.ensures.first ∙ held_long _ c.args.chain.now c.args.server c.requires.server c.requires.chain
 
 pub returns-clause-words : goal.returns-clause-words
 returns-clause-words g c =
     c.in_ok-words.ensures
     ∙ value_is c.args.ready.now.plan c.args.run (views_of c.args.ready.now.keys c.args.server) (pieces_of (map g.S.Shelf.held c.args.shelves.now.items))
-    c.args.chain.now.first c.args.chain.now.second c.in_ok-values.values.first c.in_ok-values.values.second _ _ _ c.widths.result.columns
+    _ _ (first_of c.args.chain.now c.args.server) (second_of c.args.chain.now c.args.server) c.in_ok-values.values.first c.in_ok-values.values.second _ _ _ c.widths.result.columns
+    c.of_server.ensures.first c.of_server.ensures.second
     c.counter-start.ensures.value (ap (λ (w : Widths). w.columns) c.widths.ensures) c.in_ok-values.ensures.first c.in_ok-values.ensures.second c.zero.ensures.own c.zero.ensures.next
 
 pub returns-in_err-words-clause-visits : goal.returns-in_err-words-clause-visits
