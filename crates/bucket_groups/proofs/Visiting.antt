@@ -1,25 +1,24 @@
 -- What servers visit and see of a query by buckets.
-use Rattle.std.proofs.Common.{◌≡◌, ◌∙◌, sym, ap, subst, refl, ℕ, List, [], ◌∷◌, ◌++◌, append-nil, Result, Ok}
+use Rattle.std.proofs.Common.{◌≡◌, ◌∙◌, sym, ap, subst, ℕ, List, [], ◌∷◌, ◌++◌, append-nil, Result, Ok}
 use Rattle.std.specs.List.{AllZip}
-use Rattle.std.specs.Result.{IsErr}
 use Rattle.ring128.specs.declared.memory.Memory.{Memory}
 use Rattle.scan_chunks.specs.Shelf.{Held}
 use Rattle.scan_chunks.specs.Scan.{VisitsPart}
 use Rattle.scan_chunks.specs.declared.visit.Visit.{Visit}
 use Rattle.table_schema.specs.declared.shapes.Aggregate.{Aggregate}
-use Rattle.table_schema.specs.declared.shapes.Aggregate.TheVariants.{Count, Sum}
+use Rattle.table_schema.specs.declared.shapes.Aggregate.TheVariants.{Count}
 use Rattle.onehot_column.specs.Code.{width_of}
 use Rattle.query_plan.specs.KeyMessages.{message_length}
 use Rattle.visit_trace.specs.Seen.{AllSeen, Grew, GrewPrefix, alike}
 use Rattle.visit_trace.specs.Growing.{grew_both, grew_nothing, parts_join, prefix_begun, prefix_cut, seen_then}
-use Rattle.visit_trace.specs.Expected.{bits_part, keys_part, product_lengths, products_part, visits_over}
+use Rattle.visit_trace.specs.Expected.{keys_part, product_lengths, products_part, visits_over}
 use Rattle.visit_trace.specs.Sizes.{count_of, opened_columns, predicate_columns}
 use Rattle.visit_trace.specs.declared.sizes.Sizes.{Sizes}
 use Rattle.server_rounds.specs.declared.servers.Servers.{Servers}
-use Rattle.server_rounds.specs.declared.way.Way.TheVariants.{Around, ToClient}
+use Rattle.server_rounds.specs.declared.way.Way.TheVariants.{ToClient}
 use Rattle.server_rounds.specs.Noted.{group_seen}
 use Rattle.server_rounds.specs.Visits.{AllVisited, shelves_last, visits_at}
-use Rattle.server_rounds.proofs.Visiting.{visited_begun, visited_stopped}
+use Rattle.server_rounds.proofs.Visiting.{visited_begun}
 use Rattle.bucket_groups.specs.Seen.{buckets_part, group_columns, group_lengths, group_part, group_trace, value_lengths, values_part}
 
 -- all visits of a call are also the first of them

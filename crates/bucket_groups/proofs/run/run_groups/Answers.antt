@@ -1,7 +1,6 @@
-use Rattle.std.proofs.Common.{◌≡◌, ◌∙◌, ◌<◌, ◌++◌, [], ◌∷◌, ap, sym, subst, rules, arith, map}
+use Rattle.std.proofs.Common.{◌∙◌, ◌++◌, [], ◌∷◌, ap, sym, rules}
 use Rattle.wire_line.specs.Carried.{went_both}
 use Rattle.transcript.specs.Setup.{Sizes, count_of}
-use Rattle.server_rounds.specs.Groups.{AreLong}
 use Rattle.server_rounds.specs.Visits.{predicate_columns, opened_columns, run_columns}
 use Rattle.server_rounds.proofs.Visiting.{all_cut, all_done, all_fails, all_then}
 use Rattle.visit_trace.specs.Growing.{by_stopped}
