@@ -1,14 +1,11 @@
 -- The answer of a bucket is that of its own pair.
-use Rattle.std.proofs.Common.{◌≡◌, ◌∙◌, refl, sym, ap, ℕ, ◌<◌, ◌^◌, eq-eqb, List, length, get_or, arith}
+use Rattle.std.proofs.Common.{◌≡◌, ◌∙◌, refl, sym, ℕ, ◌<◌, ◌^◌, eq-eqb, List, length, get_or}
 use Rattle.std.proofs.lemmas.Bool.{and_parts, eqb-true, lt-ltb, ltb-true}
-use Rattle.std.specs.Prelude.{Result, Ok, Err, Bool, true, false, if◌then◌else◌, ◌==◌, ◌&&◌, ◌↔◌, nat_lt}
-use Rattle.list_facts.specs.Listed.{listed}
+use Rattle.std.specs.Prelude.{Ok, Err, Bool, true, false, if◌then◌else◌, ◌==◌, ◌&&◌, nat_lt}
 use Rattle.list_facts.proofs.Listed.{get_or-listed, length-listed}
 use Rattle.ring128.specs.Ring.{times}
 use Rattle.weighted_check.specs.Check.{Accepts, checked}
-use Rattle.weighted_check.specs.declared.Altered.{Altered}
 use Rattle.bucket_groups.specs.Check.{AreJudged, answer_at, answer_of, answers_of}
-use Rattle.bucket_groups.specs.declared.check.GroupAnswer.{GroupAnswer}
 use Rattle.bucket_groups.specs.declared.check.GroupAnswer.TheVariants as answer
 
 by_test : (t w k : ℕ) (b : Bool) → (w == times k t && nat_lt t (2 ^ 64)) ≡ b → ¬ Accepts t w k

@@ -1,9 +1,9 @@
 -- What a query by buckets opens where nothing was altered.
-use Rattle.std.proofs.Common.{◌≡◌, ◌∙◌, refl, sym, ap, subst, ℕ, ℤ, zero, suc, ◌+◌, ◌*◌, ◌-◌, ◌%◌, ◌^◌, ◌<◌, ◌≤◌, Bool, true, false, cond, eqb, List, [], ◌∷◌, length, get_or, map, filter, arith}
+use Rattle.std.proofs.Common.{◌≡◌, ◌∙◌, refl, sym, ap, ℕ, ℤ, ◌+◌, ◌*◌, ◌-◌, ◌%◌, ◌^◌, ◌<◌, ◌≤◌, false, cond, eqb, List, [], length, get_or, map, filter, arith}
 use Rattle.std.specs.List.{flat_map}
 use Rattle.std.proofs.lemmas.List.{ext_get_or, get_or-map, length-map}
 use Rattle.list_facts.specs.Listed.{listed}
-use Rattle.list_facts.proofs.Listed.{length-listed, get_or-listed, listed_is, listed_same}
+use Rattle.list_facts.proofs.Listed.{length-listed, get_or-listed, listed_is}
 use Rattle.prg_chacha.specs.Prg.{pad_of}
 use Rattle.ring128.specs.Ring.{plus, times, dot_of, sums3}
 use Rattle.ring128.specs.Laws.{IsThree}
@@ -19,21 +19,20 @@ use Rattle.table_schema.specs.declared.shapes.Aggregate.{Aggregate}
 use Rattle.table_schema.specs.declared.shapes.Aggregate.TheVariants.{Count, Sum}
 use Rattle.onehot_column.specs.Code.{word_of, width_of, code_at}
 use Rattle.query_plan.specs.declared.query.Query.{Query}
-use Rattle.query_plan.specs.Views.{View, key_from}
-use Rattle.scan_chunks.specs.Pieces.{Pieces}
-use Rattle.transcript.specs.Setup.{Setup, Sizes, Ending, count_of}
+use Rattle.query_plan.specs.Views.{key_from}
+use Rattle.transcript.specs.Setup.{Setup, Ending, count_of}
 use Rattle.transcript.specs.Steps.{Step, further, opening, IsStep, place_of, chain_step, step_before, after}
-use Rattle.transcript.specs.Formulas.{Seat, words_of}
+use Rattle.transcript.specs.Formulas.{words_of}
 use Rattle.transcript.specs.Transcript.{IsTranscript, seat_of, opened_at}
 use Rattle.transcript.specs.Plain.{passes, answer_of, plain}
 use Rattle.transcript.specs.Laws.{Asks}
-use Rattle.transcript.specs.Shifts.{no_row, chain_sum}
+use Rattle.transcript.specs.Shifts.{no_row}
 use Rattle.transcript.proofs.Seats.{same_end}
 use Rattle.transcript.proofs.Shares.{message_of, there, fits_at}
 use Rattle.transcript.proofs.Shifted.{codes_are_values, length-codes, count_is, aggregate_is}
 use Rattle.transcript.proofs.Honest.{products_shared, answers, key_from-ones}
 use Rattle.transcript.proofs.Steps.{key_from-below, word_of-below}
-use Rattle.bucket_groups.specs.Ending.{further_steps, places_of, value_words, bucket_words, bucket_ending, opened_groups}
+use Rattle.bucket_groups.specs.Ending.{further_steps, places_of, value_words, bucket_words, bucket_ending}
 use Rattle.bucket_groups.specs.Grouped.{is_in, grouped}
 use Rattle.bucket_groups.specs.Laws.{GroupsOpen, GroupPairsOpen, BucketsSeeColumns}
 use Rattle.bucket_groups.proofs.Buckets.{places_add_up, bucket_opens, value_with, dot_of_bucket}

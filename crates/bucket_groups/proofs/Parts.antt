@@ -1,6 +1,5 @@
 -- What one server sends after the products of the bits.
-use Rattle.std.proofs.Common.{◌≡◌, ◌∙◌, ap, ℕ, ◌+◌, ◌*◌, List, length}
-use Rattle.list_facts.specs.Listed.{listed}
+use Rattle.std.proofs.Common.{◌≡◌, ◌∙◌, ℕ, ◌+◌, ◌*◌, List, length}
 use Rattle.prg_chacha.specs.declared.seed.Seed.{Seed}
 use Rattle.ring128.specs.Ring.{sums}
 use Rattle.zero_share.specs.Zero.{parts_of}

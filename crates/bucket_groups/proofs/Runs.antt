@@ -1,11 +1,9 @@
 -- The messages of a run by buckets, and of both.
-use Rattle.std.proofs.Common.{◌≡◌, ◌∙◌, refl, sym, ap, subst, ℕ, suc, ◌+◌, ◌*◌, ◌<◌, ◌≤◌, List, [], ◌++◌, length, get_or, arith, length-append, append-nil, ⊎_elim, eqb, true, false, ◌^◌}
+use Rattle.std.proofs.Common.{◌≡◌, ◌∙◌, refl, sym, ap, subst, ℕ, ◌<◌, List, ◌++◌, length, get_or, arith, length-append, append-nil, ⊎_elim, eqb, true, false}
 use Rattle.std.proofs.lemmas.Bool.{cases_Bool}
 use Rattle.std.proofs.lemmas.Nat.{pow_pos}
 use Rattle.table_schema.specs.declared.widths.Widths.{Widths}
-use Rattle.list_facts.specs.Listed.{listed}
 use Rattle.list_facts.proofs.Listed.{listed_is, length-listed}
-use Rattle.ring128.specs.Ring.{plus, sums3}
 use Rattle.ring128.specs.Laws.{IsThree}
 use Rattle.ring128.proofs.Laws.{get_or-sums3, length-sums3}
 use Rattle.wire_line.specs.declared.message.Message.{Message}
@@ -15,13 +13,13 @@ use Rattle.table_schema.specs.declared.shapes.Aggregate.{Aggregate}
 use Rattle.table_schema.specs.declared.shapes.Aggregate.TheVariants.{Count, Sum}
 use Rattle.onehot_column.specs.Code.{width_of}
 use Rattle.query_plan.specs.Views.{View}
-use Rattle.transcript.specs.Setup.{Sizes, Ending, Setup, count_of}
+use Rattle.transcript.specs.Setup.{Sizes, count_of}
 use Rattle.transcript.specs.Transcript.{IsPart, IsTranscript, opened_at}
-use Rattle.server_rounds.specs.declared.way.Way.TheVariants.{Around, ToClient}
-use Rattle.server_rounds.specs.Groups.{Pairs, IsGroup, AreReshared}
-use Rattle.server_rounds.specs.Runs.{IsBefore, IsRunPart, IsRun, HaveProducts, HaveEnded, setup_of}
+use Rattle.server_rounds.specs.declared.way.Way.TheVariants.{ToClient}
+use Rattle.server_rounds.specs.Groups.{Pairs, IsGroup}
+use Rattle.server_rounds.specs.Runs.{IsBefore, IsRunPart, HaveProducts, HaveEnded, setup_of}
 use Rattle.server_rounds.proofs.Extend.{opened_stays}
-use Rattle.server_rounds.proofs.Runs.{products_ended, further_part, further_more, last_part, last_ends, received_at}
+use Rattle.server_rounds.proofs.Runs.{products_ended, further_part, further_more, last_part, last_ends}
 use Rattle.server_rounds.proofs.Both.{after_run}
 use Rattle.bucket_groups.specs.Ending.{further_steps, bucket_ending, opened_groups}
 use Rattle.bucket_groups.specs.Rounds.{values_of, buckets_of, IsValuePart, AreValued, AreOpened, AreGroups}

@@ -1,37 +1,25 @@
 -- What servers visit and see of a query by buckets.
-use Rattle.std.proofs.Common.{◌≡◌, ◌∙◌, sym, ap, subst, refl, ℕ, List, [], ◌∷◌, ◌++◌, append-nil, Result, Ok}
+use Rattle.std.proofs.Common.{◌≡◌, ◌∙◌, sym, ap, subst, ℕ, List, [], ◌∷◌, ◌++◌, append-nil, Result, Ok}
 use Rattle.std.specs.List.{AllZip}
-use Rattle.std.specs.Result.{IsErr}
 use Rattle.ring128.specs.declared.memory.Memory.{Memory}
 use Rattle.scan_chunks.specs.Shelf.{Held}
 use Rattle.scan_chunks.specs.Scan.{VisitsPart}
 use Rattle.scan_chunks.specs.declared.visit.Visit.{Visit}
 use Rattle.table_schema.specs.declared.shapes.Aggregate.{Aggregate}
-use Rattle.table_schema.specs.declared.shapes.Aggregate.TheVariants.{Count, Sum}
+use Rattle.table_schema.specs.declared.shapes.Aggregate.TheVariants.{Count}
 use Rattle.onehot_column.specs.Code.{width_of}
 use Rattle.query_plan.specs.KeyMessages.{message_length}
 use Rattle.visit_trace.specs.Seen.{AllSeen, Grew, GrewPrefix, alike}
 use Rattle.visit_trace.specs.Growing.{grew_both, grew_nothing, parts_join, prefix_begun, prefix_cut, seen_then}
-use Rattle.visit_trace.specs.Expected.{bits_part, keys_part, product_lengths, products_part, visits_over}
+use Rattle.visit_trace.specs.Expected.{keys_part, product_lengths, products_part, visits_over}
 use Rattle.visit_trace.specs.Sizes.{count_of, opened_columns, predicate_columns}
 use Rattle.visit_trace.specs.declared.sizes.Sizes.{Sizes}
 use Rattle.server_rounds.specs.declared.servers.Servers.{Servers}
-use Rattle.server_rounds.specs.declared.way.Way.TheVariants.{Around, ToClient}
+use Rattle.server_rounds.specs.declared.way.Way.TheVariants.{ToClient}
 use Rattle.server_rounds.specs.Noted.{group_seen}
 use Rattle.server_rounds.specs.Visits.{AllVisited, shelves_last, visits_at}
-use Rattle.server_rounds.proofs.Visiting.{visited_begun, visited_stopped}
+use Rattle.server_rounds.proofs.Visiting.{visited_begun}
 use Rattle.bucket_groups.specs.Seen.{buckets_part, group_columns, group_lengths, group_part, group_trace, value_lengths, values_part}
-
--- out of memory: of the visits at each server the first ones were made
-pub all_begun : {S U : Type 0} (held : S → Held) (visited : S → List Visit) (columns : List ℕ) (old new : Servers S) (q : Result U Memory) → IsErr q
-    → AllZip (λ s t. VisitsPart (visited s) (visited t) (visits_at (held s) columns)) old.zero.items new.zero.items
-    → AllZip (λ s t. VisitsPart (visited s) (visited t) (visits_at (held s) columns)) old.one.items new.one.items
-    → AllZip (λ s t. VisitsPart (visited s) (visited t) (visits_at (held s) columns)) old.two.items new.two.items → AllVisited held visited columns old new q
-all_begun held visited columns old new q failed z0 z1 z2 = record {
-  zero = visited_stopped held visited columns old.zero.items new.zero.items q failed z0;
-  one = visited_stopped held visited columns old.one.items new.one.items q failed z1;
-  two = visited_stopped held visited columns old.two.items new.two.items q failed z2;
-}
 
 -- all visits of a call are also the first of them
 pub made_begun : {S : Type 0} (held : S → Held) (visited : S → List Visit) (columns : List ℕ) (old new : List S)
@@ -50,25 +38,12 @@ count_visits held visited a value old r e z = subst (λ (b : Aggregate). AllVisi
 pub count_seen : (a : Aggregate) (z : Sizes) (t : AllSeen) → a ≡ Count → Grew t t (values_part a z)
 count_seen a z t e = subst (λ (b : Aggregate). Grew t t (values_part b z)) (sym e) (grew_nothing t)
 
--- visits, and then the lengths of messages: those that go around, and those to the client
-around_is : (x0 x1 x2 v : List Visit) (n m : ℕ) → x0 ≡ v → x1 ≡ v → x2 ≡ v → n ≡ m
-    → seen_then (visits_seen x0 x1 x2) (group_seen Around n n n) ≡ alike (record { visits = v; lengths = m ∷ m ∷ [] })
-around_is x0 x1 x2 v n m e0 e1 e2 e =
-    let all : seen_then (visits_seen x0 x1 x2) (group_seen Around n n n) ≡ seen_then (visits_seen v v v) (group_seen Around m m m) = cc in
-    all ∙ ap (λ (l : List Visit). alike (record { visits = l; lengths = m ∷ m ∷ [] })) (append-nil v)
-
+-- visits, and then the lengths of messages to the client
 client_is : (x0 x1 x2 v : List Visit) (n m : ℕ) → x0 ≡ v → x1 ≡ v → x2 ≡ v → n ≡ m
     → seen_then (visits_seen x0 x1 x2) (group_seen ToClient n n n) ≡ alike (record { visits = v; lengths = m ∷ [] })
 client_is x0 x1 x2 v n m e0 e1 e2 e =
     let all : seen_then (visits_seen x0 x1 x2) (group_seen ToClient n n n) ≡ seen_then (visits_seen v v v) (group_seen ToClient m m m) = cc in
     all ∙ ap (λ (l : List Visit). alike (record { visits = l; lengths = m ∷ [] })) (append-nil v)
-
--- the values were visited, and their products sent around
-pub values_noted : {S : Type 0} (held : S → Held) (visited : S → List Visit) (z : Sizes) (column n : ℕ) (zero one two : List S)
-    → shelves_last held visited zero ≡ visits_over z.rows (column ∷ []) → shelves_last held visited one ≡ visits_over z.rows (column ∷ [])
-    → shelves_last held visited two ≡ visits_over z.rows (column ∷ []) → n ≡ z.rows
-    → seen_then (visits_seen (shelves_last held visited zero) (shelves_last held visited one) (shelves_last held visited two)) (group_seen Around n n n) ≡ bits_part z column
-values_noted held visited z column n zero one two e0 e1 e2 e = around_is _ _ _ (visits_over z.rows (column ∷ [])) n z.rows e0 e1 e2 e
 
 -- the column of the buckets was visited, and its openings sent to the client
 pub buckets_noted : {S : Type 0} (held : S → Held) (visited : S → List Visit) (z : Sizes) (column n : ℕ) (zero one two : List S)

@@ -1,7 +1,5 @@
 //! The words of the three servers in a step after the products of the bits: made side by side where each has several shelves, else
 //! one after another.
-ghost use denote.Param.Send.{IsSend, IsSync};
-ghost use Rattle.std.specs.Prelude.{◌≡◌, ◌<◌, ◌≤◌, map, length, IfOk};
 ghost use Rattle.server_rounds.specs.AtOnce.{CanOpen};
 ghost use Rattle.server_rounds.specs.Plans.{views_of};
 ghost use Rattle.bucket_groups.specs.AtOnce.{CanGroup, GivesBuckets, GivesValues};

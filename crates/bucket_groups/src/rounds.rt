@@ -1,9 +1,7 @@
 //! The three messages of a step that comes after the products of the bits, at all servers.
 ghost use Rattle.std.specs.Prelude.{◌≡◌, ◌<◌, List, [], ◌∷◌, map, length, IfOk};
-ghost use Rattle.ring128.specs.Ring.{sums3};
 ghost use Rattle.wire_line.specs.declared.message.Message.{Message};
 ghost use Rattle.wire_line.specs.Messages.{Went};
-ghost use Rattle.onehot_column.specs.Code.{width_of};
 ghost use Rattle.server_rounds.specs.Groups.{by_server, AreLong, AreReshared, IsGroup};
 ghost use Rattle.server_rounds.specs.Plans.{views_of};
 ghost use Rattle.server_rounds.specs.Shelves.{AreShelves, pieces_of};

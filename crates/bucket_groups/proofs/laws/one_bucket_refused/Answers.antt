@@ -1,4 +1,4 @@
-use Rattle.std.proofs.Common.{◌∙◌, sym}
+use Rattle.std.proofs.Common.{◌∙◌}
 use Rattle.bucket_groups.proofs.Judged.{answer_is, refused}
 use Rattle.bucket_groups.proofs.laws.one_bucket_refused.Goals as goal
 

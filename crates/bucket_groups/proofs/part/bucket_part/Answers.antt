@@ -1,4 +1,4 @@
-use Rattle.std.proofs.Common.{[], ◌∷◌, ◌++◌, ◌<◌, ◌≤◌, ap, sym, length, map, ◌∙◌, ◌≡◌, ℕ, arith}
+use Rattle.std.proofs.Common.{[], ◌∷◌, ◌++◌, ◌≤◌, ap, sym, length, map, ◌∙◌, ◌≡◌, ℕ, arith}
 use Rattle.std.proofs.lemmas.List.Elements.{All-same}
 use Rattle.list_facts.specs.Count.{total}
 use Rattle.list_facts.proofs.Listed.{length-listed}

@@ -1,4 +1,4 @@
-use Rattle.std.proofs.Common.{[], ◌∷◌, ap, sym, length, map, ◌∙◌, ◌≡◌}
+use Rattle.std.proofs.Common.{[], ◌∷◌, ap, length, map, ◌∙◌}
 use Rattle.list_facts.proofs.Listed.{length-listed}
 use Rattle.table_schema.specs.declared.widths.Widths.{Widths}
 use Rattle.server_rounds.specs.Groups.{first_of, second_of}

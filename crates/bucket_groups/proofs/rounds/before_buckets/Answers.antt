@@ -1,7 +1,13 @@
-use Rattle.std.proofs.Common.{◌∙◌, sym}
+use Rattle.std.proofs.Common.{[], refl, sym, ◌∙◌}
+use Rattle.wire_line.specs.Carried.{went_none}
 use Rattle.server_rounds.proofs.Visiting.{none_seen}
 use Rattle.bucket_groups.proofs.Visiting.{count_visits}
 use Rattle.bucket_groups.proofs.rounds.before_buckets.Goals as goal
+
+pub returns-in-Count-clause-messages : goal.returns-in-Count-clause-messages
+returns-in-Count-clause-messages g c =
+    let counts = sym c.aggregate.ensures ∙ c.in-Count.is in
+    ([], went_none g.W.Wire.sight _ _ refl refl (g.met.W.Wire.none_passes _), rw counts refl, rw counts refl)
 
 pub returns-in-Count-clause-visits : goal.returns-in-Count-clause-visits
 returns-in-Count-clause-visits g c =

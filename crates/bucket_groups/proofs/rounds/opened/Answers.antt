@@ -1,5 +1,4 @@
-use Rattle.std.proofs.Common.{◌≡◌, ◌∙◌, refl, sym, ap, List, ℕ, length, arith, rules}
-use Rattle.ring128.specs.Ring.{sums3}
+use Rattle.std.proofs.Common.{◌∙◌, refl, sym, length, arith}
 use Rattle.visit_trace.specs.Growing.{by_stopped}
 use Rattle.server_rounds.specs.declared.way.Way.TheVariants.{ToClient}
 use Rattle.server_rounds.proofs.Noting.{group_same, grew_along, prefix_along}

@@ -1,11 +1,10 @@
-use Rattle.std.proofs.Common.{◌≡◌, ◌∙◌, ◌<◌, ◌++◌, refl, map, ap, sym, subst, rules, arith}
+use Rattle.std.proofs.Common.{◌≡◌, ◌∙◌, ◌++◌, refl, map, ap, sym, subst, rules, arith}
 use Rattle.list_facts.specs.Count.{total}
 use Rattle.scan_chunks.specs.Shelf.{Held}
 use Rattle.wire_line.specs.Carried.{went_both}
-use Rattle.transcript.specs.Setup.{Sizes, count_of}
+use Rattle.transcript.specs.Setup.{Sizes}
 use Rattle.bucket_groups.specs.Ending.{bucket_ending}
 use Rattle.bucket_groups.proofs.Runs.{after_groups, whole_groups, wide_column}
-use Rattle.table_schema.specs.declared.widths.Widths.{Widths}
 use Rattle.server_rounds.specs.Groups.{by_server}
 use Rattle.server_rounds.specs.Plans.{read_for, sizes_for, views_of, words_for}
 use Rattle.server_rounds.specs.Shelves.{AreShelves, pieces_of, rows_of}

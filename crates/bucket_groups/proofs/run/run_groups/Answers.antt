@@ -1,7 +1,6 @@
-use Rattle.std.proofs.Common.{◌≡◌, ◌∙◌, ◌<◌, ◌++◌, [], ◌∷◌, ap, sym, subst, rules, arith, map}
+use Rattle.std.proofs.Common.{◌∙◌, ◌++◌, [], ◌∷◌, ap, sym, rules}
 use Rattle.wire_line.specs.Carried.{went_both}
 use Rattle.transcript.specs.Setup.{Sizes, count_of}
-use Rattle.server_rounds.specs.Groups.{AreLong}
 use Rattle.server_rounds.specs.Visits.{predicate_columns, opened_columns, run_columns}
 use Rattle.server_rounds.proofs.Visiting.{all_cut, all_done, all_fails, all_then}
 use Rattle.visit_trace.specs.Growing.{by_stopped}
@@ -18,14 +17,14 @@ returns-in_err-product-clause-messages g c =
     let b = c.in_err-product.ensures.messages in (b.0, b.1, b.2 (bucket_ending c.args.ready.now.plan c.args.column), search rules)
 
 pub before_buckets-requires-clause-chain : goal.before_buckets-requires-clause-chain
-before_buckets-requires-clause-chain g c =
+before_buckets-requires-clause-chain g c κs within =
     let long = rw c.in_ok-product.ensures.plan at c.into_chain-chain.ensures.long in rw c.into_chain-chain.ensures.chain long
 
 pub before_buckets-requires-clause-zero : goal.before_buckets-requires-clause-zero
-before_buckets-requires-clause-zero g c = rw c.in_ok-product.ensures.zero c.requires.zero
+before_buckets-requires-clause-zero g c κs within = rw c.in_ok-product.ensures.zero c.requires.zero
 
 pub bucket_round-requires-clause-zero : goal.bucket_round-requires-clause-zero
-bucket_round-requires-clause-zero g c = rw (c.in_ok-held.ensures.zero, c.in_ok-product.ensures.zero) c.requires.zero
+bucket_round-requires-clause-zero g c κs within = rw (c.in_ok-held.ensures.zero, c.in_ok-product.ensures.zero) c.requires.zero
 
 pub returns-in_err-held-clause-zero : goal.returns-in_err-held-clause-zero
 returns-in_err-held-clause-zero g c = c.in_err-held.ensures.zero ∙ c.in_ok-product.ensures.zero
@@ -37,10 +36,10 @@ pub returns-clause-zero : goal.returns-clause-zero
 returns-clause-zero g c = c.in_ok-totals.ensures.zero ∙ c.in_ok-held.ensures.zero ∙ c.in_ok-product.ensures.zero
 
 pub before_buckets-requires-clause-one : goal.before_buckets-requires-clause-one
-before_buckets-requires-clause-one g c = rw c.in_ok-product.ensures.one c.requires.one
+before_buckets-requires-clause-one g c κs within = rw c.in_ok-product.ensures.one c.requires.one
 
 pub bucket_round-requires-clause-one : goal.bucket_round-requires-clause-one
-bucket_round-requires-clause-one g c = rw (c.in_ok-held.ensures.one, c.in_ok-product.ensures.one) c.requires.one
+bucket_round-requires-clause-one g c κs within = rw (c.in_ok-held.ensures.one, c.in_ok-product.ensures.one) c.requires.one
 
 pub returns-in_err-held-clause-one : goal.returns-in_err-held-clause-one
 returns-in_err-held-clause-one g c = c.in_err-held.ensures.one ∙ c.in_ok-product.ensures.one
@@ -52,10 +51,10 @@ pub returns-clause-one : goal.returns-clause-one
 returns-clause-one g c = c.in_ok-totals.ensures.one ∙ c.in_ok-held.ensures.one ∙ c.in_ok-product.ensures.one
 
 pub before_buckets-requires-clause-two : goal.before_buckets-requires-clause-two
-before_buckets-requires-clause-two g c = rw c.in_ok-product.ensures.two c.requires.two
+before_buckets-requires-clause-two g c κs within = rw c.in_ok-product.ensures.two c.requires.two
 
 pub bucket_round-requires-clause-two : goal.bucket_round-requires-clause-two
-bucket_round-requires-clause-two g c = rw (c.in_ok-held.ensures.two, c.in_ok-product.ensures.two) c.requires.two
+bucket_round-requires-clause-two g c κs within = rw (c.in_ok-held.ensures.two, c.in_ok-product.ensures.two) c.requires.two
 
 pub returns-in_err-held-clause-two : goal.returns-in_err-held-clause-two
 returns-in_err-held-clause-two g c = c.in_err-held.ensures.two ∙ c.in_ok-product.ensures.two

@@ -1,4 +1,4 @@
-use Rattle.std.proofs.Common.{◌<◌, length, sym, ◌∙◌, arith}
+use Rattle.std.proofs.Common.{◌<◌, length, arith}
 use Rattle.list_facts.proofs.Listed.{listed_is}
 use Rattle.bucket_groups.proofs.sums.add_row.Goals as goal
 

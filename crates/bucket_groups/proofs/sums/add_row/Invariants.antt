@@ -1,4 +1,4 @@
-use Rattle.std.proofs.Common.{◌≡◌, ℕ, ◌<◌, ◌≤◌, length, get_or}
+use Rattle.std.proofs.Common.{◌≡◌, ℕ, ◌<◌, ◌≤◌, get_or}
 use Rattle.ring128.specs.Ring.{plus}
 use Rattle.share_product.specs.Product.{local_of}
 use Rattle.bucket_groups.proofs.sums.add_row.Given as goal

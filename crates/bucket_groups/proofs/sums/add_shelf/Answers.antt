@@ -1,5 +1,5 @@
 use Rattle.std.proofs.Common.{refl, rules, arith, ap, sym, ◌≡◌, ◌∙◌, ℕ, ◌+◌, ◌-◌, ◌*◌, ◌<◌, ◌≤◌, min, length, take, drop}
-use Rattle.scan_chunks.specs.Pieces.{chunk_of, chunks_of}
+use Rattle.scan_chunks.specs.Pieces.{chunks_of}
 use Rattle.scan_chunks.proofs.Chunks.{chunk_long, rows_in}
 use Rattle.scan_chunks.proofs.Visits.{stopped, visited_more}
 use Rattle.bucket_groups.proofs.Adding.{added_all, added_long, added_none, added_small, added_to, chunk_rows, pairs_long, rows_added}

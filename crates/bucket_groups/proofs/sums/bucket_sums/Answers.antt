@@ -1,4 +1,4 @@
-use Rattle.std.proofs.Common.{◌≡◌, ◌∙◌, refl, ap, sym, ◌++◌, ◌+◌, ◌-◌, ◌≤◌, ◌<◌, ◌*◌, ◌^◌, ℕ, List, [], All, get_or, take, drop, length, replicate, rules, arith}
+use Rattle.std.proofs.Common.{◌≡◌, ◌∙◌, refl, ap, sym, ◌++◌, ◌+◌, ◌<◌, ◌*◌, ℕ, List, [], get_or, take, length, replicate, arith}
 use Rattle.std.proofs.lemmas.List.{get_or-replicate, length-replicate, take_all}
 use Rattle.std.specs.List.{flat_map}
 use Rattle.list_facts.specs.Count.{total}
