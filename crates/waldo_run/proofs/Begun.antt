@@ -1,6 +1,7 @@
 -- What was carried and answered over the rows of a command, or over the first fault of its input.
-use Rattle.std.proofs.Common.{rules, ◌≡◌, ◌≢◌, ◌∙◌, refl, sym, ap, subst, ℕ, ◌⊎◌, inl, inr, true, false, Bool, List, [], ◌∷◌, arith}
+use Rattle.std.proofs.Common.{rules, ◌≡◌, ◌≢◌, ◌∙◌, refl, sym, ap, subst, ℕ, ◌+◌, ◌⊎◌, inl, inr, true, false, Bool, List, [], ◌∷◌, arith}
 use Rattle.std.specs.Prelude.{IsSomeAnd, Option, Some, None, Result, Ok, Err, OnErr, IfOk, IsErr, MatchBool}
+use Rattle.query_plan.specs.declared.group.GroupQuery.{GroupQuery}
 use Rattle.ring128.specs.declared.memory.Memory.{Memory}
 use Rattle.row_source.specs.Input.{HasReadFault, Reading, Reads, most_bytes}
 use Rattle.row_source.specs.Input.Reading.{Untouched, Whole, Long, Broken}
@@ -19,17 +20,19 @@ use Rattle.waldo_words.specs.declared.command.Command.{Command}
 use Rattle.waldo_words.specs.declared.faults.WordFault.{WordFault}
 use Rattle.waldo_words.specs.declared.faults.WordFault.TheVariants as faults
 use Rattle.waldo_words.specs.declared.schedule.Step.{Step}
+use Rattle.waldo_run.specs.Buckets.{BeginsBuckets, HasBuckets}
 use Rattle.waldo_run.specs.Replies.{Reply, Suits, checked_answer, refusal, reply_over, row_refusal, rows_reply, single, unread}
 use Rattle.waldo_run.specs.Run.{Answers, Asked, AskedIn, AskedOver, Begun, BegunAt, BegunIn, BegunOver, Breaks, Replies}
 use Rattle.waldo_run.specs.Tasks.{AreWidthsIn, common_in, reads_input, rows_in, rows_made}
 use Rattle.waldo_run.specs.Works.{Begins, IsDone, Work, work_over}
-use Rattle.waldo_run.specs.Works.Work.{Steps, Range}
+use Rattle.waldo_run.specs.Works.Work.{Steps, Range, Buckets}
 use Rattle.fault_count.specs.Streams.{Change}
 
 -- without a message nothing was begun
 none_begins : (w : Widths) (work : Work) → Begins w work []
 none_begins w (Steps task) = tt
 none_begins w (Range s low high) = tt
+none_begins w (Buckets bits s groups) = tt
 
 pub none_begun : (command : Command) (w : Widths) → AreWidthsIn command w → (rows : Result (List Row) RowFault) → BegunIn command [] rows
 none_begun command w of (Err fault) = refl
@@ -211,12 +214,19 @@ all_begun w s style stage (x ∷ xs) (d ∷ ds) h = (h.0, inl (h.1, on (next_sta
     on None g rest = absurd g
     on (Some next) g rest = rest next g
 
+pub all_begins : (w : Widths) (s : Setting) (i : ℕ) (gs : List GroupQuery) (ds : List Done) → HasBuckets w s i gs ds → BeginsBuckets w s i gs ds
+all_begins w s i [] [] h = tt
+all_begins w s i [] (d ∷ ds) h = absurd h
+all_begins w s i (g ∷ gs) [] h = tt
+all_begins w s i (g ∷ gs) (d ∷ ds) h = (h.0, inl (h.1, all_begins w s (i + 1) gs ds h.2))
+
 -- all messages of a command's work are the first ones of it
 done_begins : (w : Widths) (work : Work) (history : List Done) → IsDone w work history → Begins w work history
 done_begins w (Steps task) history h = all_begun w task.setting task.style _ task.steps history h
 done_begins w (Range s low high) [] h = tt
 done_begins w (Range s low high) (d ∷ []) h = (h.1, h.2.part)
 done_begins w (Range s low high) (d ∷ e ∷ ds) h = absurd h
+done_begins w (Buckets bits s groups) history h = all_begins w s 0 groups history h
 
 begun_in : (unaltered : ℕ → Type 0) (command : Command) (history : List Done) (r : Result (List Row) RowFault) → AskedIn unaltered command history r → BegunIn command history r
 begun_in unaltered command history (Err fault) asked = asked

@@ -26,6 +26,7 @@ use Rattle.waldo_words.specs.declared.command.Command.TheVariants as commands
 use Rattle.waldo_words.specs.declared.faults.WordFault.{WordFault}
 use Rattle.waldo_words.specs.declared.shifts.ShiftWord.{ShiftWord}
 use Rattle.wire_line.specs.declared.message.Message.{Message}
+use Rattle.waldo_run.specs.Buckets.{plain_group_lines}
 use Rattle.waldo_run.specs.Complete.{EndsChecked, EndsPlainly, EndsRaced, EndsWith, GivesRows, HaveCases, IsAccepted, StepsHaveCases}
 use Rattle.waldo_run.specs.Races.{RacedFrom, RacedIn, RacedOver, Races, crew_of}
 use Rattle.waldo_run.specs.Replies.{Answering, Reply, checked_answer, ended, plain_answer, plain_in, range_line, reply_over, reply_to, rows_reply, single}
@@ -33,7 +34,7 @@ use Rattle.waldo_run.specs.Run.{Asked, AskedIn, AskedOver, HasSchedule, Puts, Ru
 use Rattle.waldo_run.specs.Tampered.{AltersNothing, shifts_of}
 use Rattle.waldo_run.specs.Trees.{plain_count}
 use Rattle.waldo_run.specs.Works.{Work, work_over}
-use Rattle.waldo_run.specs.Works.Work.{Steps, Range}
+use Rattle.waldo_run.specs.Works.Work.{Steps, Range, Buckets}
 use Rattle.waldo_run.specs.Tasks.{common_in, reads_input, rows_in, rows_made, task_over}
 use Rattle.waldo_run.proofs.Reported.{read_reported, short_reading}
 use Rattle.waldo_run.proofs.Statuses.{refused_of}
@@ -99,6 +100,7 @@ plain_zero (Range s low high) has ne = by (ltb (length s.rows) high) refl
     by : (t : Bool) → ltb (length s.rows) high ≡ t → (cond t (single 5 (lines.TooFew high)) (range_line low high (Ok (plain_count s low high)))).status ≡ 0
     by true e = let le : high ≤ length s.rows = has in let lt = ltb-true (length s.rows) high e in absurd (omega arith)
     by false e = refl
+plain_zero (Buckets bits s groups) has ne = not_seven (list_any is_altered (plain_group_lines bits s 0 groups)) ne
 
 zero_or_seven : (b : Bool) → (status_by b ≡ 0) ⊎ (status_by b ≡ 7)
 zero_or_seven true = inr refl
@@ -164,6 +166,7 @@ module _ (order : AskedInOrder) (source sink : Change) (carried : List Done → 
   ended_by (commands.Make c number count) has run still = plainly_ended (commands.Make c number count) has run (still refl)
   ended_by (commands.Trace c) has run still = plainly_ended (commands.Trace c) has run (still refl)
   ended_by (commands.Tree c low high) has run still = plainly_ended (commands.Tree c low high) has run (still refl)
+  ended_by (commands.Groups c groups) has run still = plainly_ended (commands.Groups c groups) has run (still refl)
   ended_by (commands.Tamper c shifts) has run still = checked_ended c shifts has run
 
 pub completes : AskedInOrder → (said : Result Command WordFault) (source sink : Change) (carried : List Done → Type 0) (unaltered : ℕ → Type 0) (status : ℕ)

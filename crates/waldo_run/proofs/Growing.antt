@@ -2,6 +2,7 @@
 use Rattle.std.proofs.Common.{◌≡◌, ◌∙◌, refl, sym, ap, subst, ℕ, inl, inr, true, false, List, length}
 use Rattle.std.specs.Prelude.{◌≢◌, IfOk, IsErr, Result, Ok, Err}
 use Rattle.fault_count.specs.Streams.{Change}
+use Rattle.query_plan.specs.declared.group.GroupQuery.{GroupQuery}
 use Rattle.ring128.specs.declared.memory.Memory.{Memory}
 use Rattle.row_source.specs.Input.{HasReadFault, Reading, Reads, most_bytes}
 use Rattle.row_source.specs.Input.Reading.{Untouched, Whole, Long, Broken}
@@ -24,9 +25,11 @@ use Rattle.waldo_words.specs.declared.command.Command.TheVariants as commands
 use Rattle.waldo_words.specs.declared.command.Common.{Common}
 use Rattle.waldo_words.specs.declared.faults.WordFault.{WordFault}
 use Rattle.waldo_words.specs.declared.schedule.Step.{Step}
-use Rattle.waldo_run.specs.Grown.{Sees, SeesAt, SeesIn, SeesPart, Traces, TracesOf, sizes_by}
+use Rattle.waldo_run.specs.Buckets.{group_traces}
+use Rattle.waldo_run.specs.Grown.{Sees, SeesAt, SeesIn, SeesPart, Traces, TracesOf, sizes_by, trace_by}
 use Rattle.waldo_run.specs.Replies.{IsReplyOf, Reply}
 use Rattle.waldo_run.specs.Tasks.{AreWidthsIn, common_in, reads_input, rows_in, rows_made, setting_of}
+use Rattle.waldo_run.specs.Works.{PlaysSteps}
 use Rattle.waldo_run.proofs.Begun.{read_suits, unread_suits}
 
 -- ---- the steps of a command
@@ -93,13 +96,34 @@ none_grew t (Err memory) = prefix_none t (alike nothing)
 
 -- a range of places adds nothing
 pub range_adds : (command : Command) (c : Common) (low high : ℕ) (w : Widths) (rows : List Row) (t : AllSeen) (result : Result Reply Memory)
-    → command ≡ commands.Tree c low high → GrewBy t t (traces_of (sizes_by command w rows)) result
+    → command ≡ commands.Tree c low high → GrewBy t t (trace_by command w rows) result
 range_adds command c low high w rows t result is =
-    subst (λ (x : Command). GrewBy t t (traces_of (sizes_by x w rows)) result) (sym is) (none_grew t result)
+    subst (λ (x : Command). GrewBy t t (trace_by x w rows) result) (sym is) (none_grew t result)
+
+-- queries by the buckets of a column
+pub groups_add : (command : Command) (c : Common) (groups said : List GroupQuery) (w v : Widths) (rows : List Row) (seen : Setting) (a b : AllSeen) (result : Result Reply Memory)
+    → command ≡ commands.Groups c groups → v ≡ w → seen ≡ setting_of c rows → said ≡ groups → GrewBy a b (group_traces v (length seen.rows) said) result
+    → GrewBy a b (trace_by command w rows) result
+groups_add command c groups said w v rows seen a b result is same setting these g =
+    subst (λ (t : AllSeen). GrewBy a b t result)
+    (ap (λ (u : Widths). group_traces u (length seen.rows) said) same ∙ ap (λ (s : Setting). group_traces w (length s.rows) said) setting
+    ∙ ap (group_traces w (length rows)) these ∙ sym (ap (λ (x : Command). trace_by x w rows) is)) g
+
+-- steps
+pub steps_add : (command : Command) (w : Widths) (rows : List Row) → PlaysSteps command rows → (a b : AllSeen) (result : Result Reply Memory)
+    → GrewBy a b (traces_of (sizes_by command w rows)) result → GrewBy a b (trace_by command w rows) result
+steps_add (commands.Ask c) w rows plays a b result g = g
+steps_add (commands.Replay c schedule) w rows plays a b result g = g
+steps_add (commands.Race c writers askers rounds) w rows plays a b result g = g
+steps_add (commands.Make c number count) w rows plays a b result g = g
+steps_add (commands.Trace c) w rows plays a b result g = g
+steps_add (commands.Tamper c shifts) w rows plays a b result g = g
+steps_add (commands.Tree c low high) w rows plays a b result g = g
+steps_add (commands.Groups c groups) w rows plays a b result g = absurd cc
 
 -- nothing was seen, as memory ran out
 pub no_sees : (command : Command) (w : Widths) → AreWidthsIn command w → (rows : Result (List Row) RowFault) (t : AllSeen) → SeesIn command (GrewPrefix t t) rows
-no_sees command w of (Ok rows) t = (w, of, prefix_none t (traces_of (sizes_by command w rows)))
+no_sees command w of (Ok rows) t = (w, of, prefix_none t (trace_by command w rows))
 no_sees command w of (Err fault) t = prefix_none t (alike nothing)
 
 -- rows with a fault
@@ -115,7 +139,7 @@ none_sees command w of rows t (Ok reply) failed = absurd cc
 none_sees command w of rows t (Err memory) failed = no_sees command w of rows t
 
 pub rows_see : (command : Command) (w : Widths) → AreWidthsIn command w → (rows : List Row) (r : Result (List Row) RowFault) → r ≡ Ok rows → (a b : AllSeen) (result : Result Reply Memory)
-    → GrewBy a b (traces_of (sizes_by command w rows)) result → SeesIn command (λ (part : AllSeen). GrewBy a b part result) r
+    → GrewBy a b (trace_by command w rows) result → SeesIn command (λ (part : AllSeen). GrewBy a b part result) r
 rows_see command w of rows r is a b result g = subst (SeesIn command (λ (part : AllSeen). GrewBy a b part result)) (sym is) (w, of, g)
 
 -- ---- the source
@@ -153,7 +177,7 @@ refused_sees command source t (Err memory) is = inl refl
 module _ (a b : AllSeen) where
   in_part : (command : Command) (rows : Result (List Row) RowFault) → SeesIn command (Grew a b) rows → SeesIn command (GrewPrefix a b) rows
   in_part command (Err fault) g = prefix_whole a b (alike nothing) g
-  in_part command (Ok rows) g = (g.0, g.1, prefix_whole a b (traces_of (sizes_by command g.0 rows)) g.2)
+  in_part command (Ok rows) g = (g.0, g.1, prefix_whole a b (trace_by command g.0 rows) g.2)
 
   at_part : (command : Command) (reading : Reading) → SeesAt command (Grew a b) reading → SeesAt command (GrewPrefix a b) reading
   at_part command Untouched g = in_part command (Ok (rows_made command)) g

@@ -51,6 +51,7 @@ module _ (source sink : Change) (carried : List Done → Type 0) (unaltered : �
   over_rows (commands.Trace c) rows has run sure still = absurd has
   over_rows (commands.Tamper c shifts) rows has run sure still = absurd has
   over_rows (commands.Tree c low high) rows has run sure still = absurd has
+  over_rows (commands.Groups c groups) rows has run sure still = absurd has
 
 pub asked_of : (said : Result Command WordFault) (source sink : Change) (carried : List Done → Type 0) (unaltered : ℕ → Type 0) (status : ℕ)
     → Runs said source carried unaltered sink status → (Rose source.before source.now → ⊥) → ((actor : ℕ) → unaltered actor)
@@ -69,3 +70,4 @@ asks_straight said (commands.Race c writers askers rounds) input rows is has = a
 asks_straight said (commands.Trace c) input rows is has = absurd has
 asks_straight said (commands.Tamper c shifts) input rows is has = absurd has
 asks_straight said (commands.Tree c low high) input rows is has = absurd has
+asks_straight said (commands.Groups c groups) input rows is has = absurd has

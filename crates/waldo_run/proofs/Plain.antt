@@ -17,9 +17,10 @@ use Rattle.table_schema.specs.declared.widths.Widths.{Widths}
 use Rattle.waldo_words.specs.declared.command.Command.{Command}
 use Rattle.waldo_words.specs.declared.command.Command.TheVariants as commands
 use Rattle.waldo_words.specs.declared.faults.WordFault.{WordFault}
-use Rattle.waldo_run.specs.Replies.{checked_answer, ended, plain_answer, range_reply, reply_over, reply_to, reported}
+use Rattle.waldo_run.specs.Replies.{checked_answer, ended, lines_reply, plain_answer, range_reply, reply_over, reply_to, reported}
 use Rattle.waldo_run.specs.Run.{Asked, AskedIn}
-use Rattle.waldo_run.specs.Tasks.{common_in, rows_in, rows_made, setting_of}
+use Rattle.waldo_run.specs.Tasks.{bits_of, common_in, rows_in, rows_made, setting_of}
+use Rattle.waldo_run.proofs.Grouping.{lines_plain}
 use Rattle.waldo_run.specs.Trees.{HasRange, IsPlainRange}
 use Rattle.waldo_run.specs.Works.{IsDone, IsPlainly, IsWork, work_over}
 use Rattle.waldo_run.specs.Works.Work.{Steps, Range}
@@ -64,6 +65,8 @@ module _ (same : PlainlyPlayed) (law : AskedPlainly) (unaltered : ℕ → Type 0
   work_plain (commands.Trace c) rows legal done plain = asking_plain (setting_of c rows) legal done plain
   work_plain (commands.Tamper c shifts) rows legal done plain = asking_plain (setting_of c rows) legal done plain
   work_plain (commands.Tree c low high) rows legal done plain = range_plain unaltered still w (setting_of c rows) low high history done honest plain
+  work_plain (commands.Groups c groups) rows legal done plain =
+      ap lines_reply (lines_plain unaltered still w (bits_of c) (setting_of c rows) 0 groups history done honest plain)
 
 over_rows : PlainlyPlayed → AskedPlainly → (unaltered : ℕ → Type 0) → ((actor : ℕ) → unaltered actor) → (command : Command) (history : List Done) (rows : Result (List Row) RowFault)
     → AskedIn unaltered command history rows → reply_over (checked_answer history) command rows ≡ reply_over plain_answer command rows

@@ -101,6 +101,7 @@ no_message (Ok (commands.Make c number count)) source = refl
 no_message (Ok (commands.Trace c)) source = refl
 no_message (Ok (commands.Tamper c shifts)) source = refl
 no_message (Ok (commands.Tree c low high)) source = refl
+no_message (Ok (commands.Groups c groups)) source = refl
 
 pub none_carried : (command : Result Command WordFault) (source : Change) (carried : List (List Message) → Type 0) → carried [] → RaceCarries command source carried
 none_carried command source carried none = record { sent = []; went = none; begun = no_message command source }

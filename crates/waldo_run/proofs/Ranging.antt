@@ -67,7 +67,7 @@ asked_once ms pair = record { step = Answer 0 0; messages = ms; pair = pair }
 -- ---- the wires
 
 -- no other actor sent them
-never : (actor : ℕ) → eqb 0 (actor + 1) ≡ false
+pub never : (actor : ℕ) → eqb 0 (actor + 1) ≡ false
 never actor = by (eqb 0 (actor + 1)) refl
   where
     by : (t : Bool) → eqb 0 (actor + 1) ≡ t → t ≡ false
@@ -185,7 +185,7 @@ same_pair pair ms e f =
 
 -- ---- what is opened
 
-rows_back : (master : Seed) (i : ℕ) (rows : List Row) → map (λ (entry : Row × Seed). entry.0) (seeded_rows master i rows) ≡ rows
+pub rows_back : (master : Seed) (i : ℕ) (rows : List Row) → map (λ (entry : Row × Seed). entry.0) (seeded_rows master i rows) ≡ rows
 rows_back master i [] = refl
 rows_back master i (row ∷ rows) = ap (λ (l : List Row). row ∷ l) (rows_back master (i + 1) rows)
 

@@ -2,7 +2,10 @@
 use Rattle.std.proofs.Common.{◌≡◌, refl, true, ◌&&◌, eqb, sym, subst, ℕ, ◌*◌, ◌≤◌, List, All, length, map, max, arith}
 use Rattle.std.proofs.lemmas.Bool.{eqb-true}
 use Rattle.std.proofs.lemmas.Nat.{mul-le}
-use Rattle.query_plan.specs.Query.{AreWidthsOf}
+use Rattle.std.proofs.lemmas.List.Elements.{All-nil}
+use Rattle.query_plan.specs.Query.{AreWidthsOf, Suits}
+use Rattle.query_plan.specs.declared.group.GroupQuery.{GroupQuery}
+use Rattle.query_plan.specs.declared.query.Query.{Query}
 use Rattle.table_schema.specs.Widths.{Fits, Holds, code_length}
 use Rattle.table_schema.specs.declared.rows.Row.{Row}
 use Rattle.table_schema.specs.declared.schema.Column.{Column}
@@ -10,11 +13,12 @@ use Rattle.table_schema.specs.declared.widths.Widths.{Widths}
 use Rattle.schedule_play.specs.Tasks.{IsSetting}
 use Rattle.table_schema.specs.declared.shapes.Aggregate.{Aggregate}
 use Rattle.table_schema.specs.declared.shapes.Aggregate.TheVariants.{Count, Sum}
-use Rattle.waldo_words.specs.Legal.{IsCommon, IsLegal, IsTree}
+use Rattle.waldo_words.specs.Legal.{IsCommon, IsGroups, IsLegal, IsTree}
 use Rattle.waldo_words.specs.Options.{is_count}
 use Rattle.waldo_words.specs.declared.command.Common.{Common}
 use Rattle.waldo_words.specs.declared.command.Command.{Command}
 use Rattle.waldo_words.specs.declared.command.Command.TheVariants as commands
+use Rattle.waldo_run.specs.Buckets.{AreBuckets}
 use Rattle.waldo_run.specs.Tasks.{AreWidthsIn, common_in, setting_of, task_over}
 use Rattle.waldo_run.specs.Trees.{IsRange, no_query, query_in}
 
@@ -34,15 +38,15 @@ is_setting c w rows common of held few = record {
   suits = λ n d lt. common.suits n d lt w of;
 }
 
--- what holds of the options of any command
-pub common_legal : (command : Command) → IsLegal command → let c = common_in command in IsCommon c
-common_legal (commands.Ask c) legal = legal
-common_legal (commands.Replay c schedule) legal = legal.common
-common_legal (commands.Race c writers askers rounds) legal = legal.common
-common_legal (commands.Make c number rows) legal = legal.common
-common_legal (commands.Trace c) legal = legal
-common_legal (commands.Tamper c shifts) legal = legal.common
-common_legal (commands.Tree c low high) legal = legal.common
+-- queries by the buckets of a column alone
+grouped_setting : (c : Common) (groups : List GroupQuery) (w : Widths) (rows : List Row) → IsGroups c groups → AreWidthsOf c.schema w → All (Holds w) rows → length rows ≤ c.capacity
+    → IsSetting w (setting_of c rows)
+grouped_setting c groups w rows legal of held few = record {
+  held = held;
+  fits = subst (λ (bits : List ℕ). Fits bits (max 1 (length rows))) (sym of.bits) (fits_less (map (λ (k : Column). k.bits) c.schema) c.capacity (length rows) legal.fits few);
+  places = subst (All (λ (q : Query). length q.predicates ≡ 4)) (sym legal.alone) (All-nil (λ (q : Query). length q.predicates ≡ 4));
+  suits = subst (All (λ (q : Query). Suits w.columns w.bits q)) (sym legal.alone) (All-nil (λ (q : Query). Suits w.columns w.bits q));
+}
 
 pub task_legal : (command : Command) (w : Widths) (rows : List Row) → IsLegal command → AreWidthsIn command w → All (Holds w) rows
     → (let c = common_in command in length rows ≤ c.capacity) → IsSetting w (task_over command rows).setting
@@ -53,6 +57,14 @@ task_legal (commands.Make c number count) w rows legal of held few = is_setting 
 task_legal (commands.Trace c) w rows legal of held few = is_setting c w rows legal of held few
 task_legal (commands.Tamper c shifts) w rows legal of held few = is_setting c w rows legal.common of held few
 task_legal (commands.Tree c low high) w rows legal of held few = is_setting c w rows legal.common of held few
+task_legal (commands.Groups c groups) w rows legal of held few = grouped_setting c groups w rows legal of held few
+
+pub groups_legal : (c : Common) (groups : List GroupQuery) (w : Widths) (rows : List Row) → IsGroups c groups → AreWidthsOf c.schema w → All (Holds w) rows → length rows ≤ c.capacity
+    → AreBuckets w (setting_of c rows) groups
+groups_legal c groups w rows legal of held few = record {
+  setting = grouped_setting c groups w rows legal of held few;
+  each = λ n d lt. let g = legal.each n d lt in let there = g.there in record { suits = g.suits w of; there = omega (arith, there, of.count) };
+}
 
 -- a count with one predicate
 single_count : (a : Aggregate) (n : ℕ) → (is_count a && eqb n 1) ≡ true → (n ≡ 1) × (a ≡ Count)

@@ -2,6 +2,8 @@
 use Rattle.std.proofs.lemmas.Bool.{ltb-true}
 use Rattle.std.proofs.Common.{rules, ◌≡◌, ◌≢◌, ◌<◌, ◌⊎◌, inl, inr, ℕ, zero, suc, Bool, true, false, cond, ltb, length, List, refl, sym, ◌∙◌, subst, arith}
 use Rattle.std.specs.Prelude.{⊤, Option, None, Some, Result, Ok, Err, IfSome, IsErr}
+use Rattle.std.specs.List.{list_any}
+use Rattle.race_play.specs.Reports.{is_altered}
 use Rattle.fault_count.specs.Causes.{Rose}
 use Rattle.row_source.specs.Input.{Reading, Reads, most_bytes}
 use Rattle.row_source.specs.Input.Reading.{Untouched, Whole, Long, Broken}
@@ -20,7 +22,8 @@ use Rattle.waldo_words.specs.declared.faults.WordFault.{WordFault}
 use Rattle.waldo_words.specs.declared.faults.WordFault.TheVariants as faults
 use Rattle.waldo_run.specs.Replies.{Answering, Reply, Suits, after_failed_put, checked_answer, ended, plain_answer, range_line, range_reply, reply_over, reply_to, single}
 use Rattle.waldo_run.specs.Run.{Asked, AskedIn, HasSchedule, IsRefusedBy, LacksRows, Puts, Refuses, RefusesInput, Replies, Runs, plain_reply}
-use Rattle.waldo_run.specs.Tasks.{common_in, rows_in, rows_made, setting_of, task_over}
+use Rattle.waldo_run.specs.Buckets.{checked_lines}
+use Rattle.waldo_run.specs.Tasks.{bits_of, common_in, rows_in, rows_made, setting_of, task_over}
 use Rattle.waldo_run.specs.Trees.{judged_in}
 use Rattle.waldo_run.specs.Works.{IsWork, work_over}
 use Rattle.waldo_run.specs.Works.Work.{Steps}
@@ -87,6 +90,7 @@ work_status order (commands.Make c number count) history rows w legal = asking_s
 work_status order (commands.Trace c) history rows w legal = asking_status order ⊥ w (setting_of c rows) history legal
 work_status order (commands.Tamper c shifts) history rows w legal = asking_status order ⊥ w (setting_of c rows) history legal
 work_status order (commands.Tree c low high) history rows w legal = range_status (setting_of c rows) low high (judged_in (setting_of c rows) (pair_at history 0))
+work_status order (commands.Groups c groups) history rows w legal = by_altered ⊥ ⊥ (list_any is_altered (checked_lines (bits_of c) (setting_of c rows) 0 groups history))
 
 rows_status : AskedInOrder → (unaltered : ℕ → Type 0) (command : Command) (history : List Done) (rows : Result (List Row) RowFault) → AskedIn unaltered command history rows
     → OfRows (HasSchedule (Ok command)) (IsRefusedBy command rows) (reply_over (checked_answer history) command rows).status
@@ -152,6 +156,7 @@ none_lacking (commands.Make c number count) suits f = f
 none_lacking (commands.Trace c) suits f = f
 none_lacking (commands.Tamper c shifts) suits f = f
 none_lacking (commands.Tree c low high) suits f = suits refl
+none_lacking (commands.Groups c groups) suits f = f
 
 faulty_reported : (command : Command) (reading : Reading) (source : Change) (reported : List ℕ) → Suits (Ok command) reading
     → Reads most_bytes reading source → Faulty command reading → source.old ≡ Some reported → Refuses (Ok command) reported

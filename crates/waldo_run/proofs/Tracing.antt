@@ -21,6 +21,7 @@ reported_status (commands.Make c number count) rows reply = refl
 reported_status (commands.Trace c) rows reply = refl
 reported_status (commands.Tamper c shifts) rows reply = refl
 reported_status (commands.Tree c low high) rows reply = refl
+reported_status (commands.Groups c groups) rows reply = refl
 
 -- the reply of `trace`, as the code makes it
 pub traced_reply : (command : Command) (c : Common) (rows : List Row) (reply made : Reply) (bits : List ℕ) (n : ℕ) (qs : List Query) (seen told : List Noted) (lines report : List Line) (status : ℕ)

@@ -1,5 +1,5 @@
 -- The work of `groups`: queries by the buckets of a column, one after another over all rows.
-use Rattle.std.specs.Prelude.{◌≡◌, ◌⊎◌, ⊤, ⊥, ℕ, ℤ, ◌+◌, ◌^◌, ◌<◌, if◌then◌else◌, List, [], ◌∷◌, ◌++◌, All, length, map, slice_index}
+use Rattle.std.specs.Prelude.{◌≡◌, ◌⊎◌, ⊤, ℕ, ℤ, ◌+◌, ◌^◌, ◌<◌, if◌then◌else◌, List, [], ◌∷◌, ◌++◌, All, length, map, slice_index}
 use Rattle.agreed_groups.specs.Answers.{groups_over, judged_groups}
 use Rattle.agreed_rows.specs.Agreed.{Entries}
 use Rattle.bucket_groups.specs.Grouped.{grouped}

@@ -90,6 +90,7 @@ fn ask_group<R: Threads + Sync, W: Wire>(
     trace: &mut Trace,
 ) -> Result<GroupAnswers, Memory>
     requires legal { IsByColumn setting.now.widths group.now }
+    requires few { index < 16 }
     requires rows { agreed.now ≡ entries_in setting.now.widths (seen setting.now) }
     requires some { 1 ≤ setting.now.workers }
     ensures asked { let s = seen setting.now in let w = setting.now.widths in
