@@ -293,6 +293,8 @@ back_none n writers order w lines.Header h = refl
 back_none n writers order w (lines.BadRecord number why) h = refl
 back_none n writers order w (lines.TooMany capacity) h = refl
 back_none n writers order w (lines.TooFew wanted) h = refl
+back_none n writers order w (lines.Group index bucket rows aggregate total) h = refl
+back_none n writers order w (lines.GroupAltered index bucket total weighted) h = refl
 
 backs_none : (n writers : ℕ) (order : List ℕ) (from : ℕ) (said : List Line) → ((w : ℕ) (line : Line) → slice_get said w ≡ Some line → IsBackLine n writers order (from + w) line)
     → rows_answered said ≡ []

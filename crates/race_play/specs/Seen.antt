@@ -34,7 +34,7 @@ asked_seen w [] ns = alike nothing
 asked_seen w (x ∷ xs) [] = alike nothing
 asked_seen w (x ∷ xs) (n ∷ ns) = seen_then (query_seen w x.query n) (asked_seen w xs ns)
 
--- what askers ask in their rounds, so many of them from one on, one asker after another
+-- what askers ask in their rounds, `count` askers from one on, one asker after another
 abbrev pub rounds_from : List Query → Seed → ℕ → ℕ → ℕ → List Question
 rounds_from queries master rounds asker zero = []
 rounds_from queries master rounds asker (suc count) =
@@ -52,7 +52,7 @@ all_questions s = all_rounds s ++ ends_of s.queries s.master (length s.queries)
 abbrev pub report_seen : Setting → List Line → AllSeen
 report_seen s said = asked_seen s.widths (all_questions s) (rows_answered said)
 
--- a line says this number of rows, and a trace grew by what the servers see of a query over so many
+-- a line says this number of rows, and a trace grew by what the servers see of a query over as many
 abbrev pub NotesLine : Widths → Query → ℕ → AllSeen → AllSeen → Line → Type 0
 NotesLine w query n old new line = (rows_said line ≡ n ∷ []) × Grew old new (query_seen w query n)
 
