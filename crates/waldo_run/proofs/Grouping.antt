@@ -1,5 +1,5 @@
 -- The queries of `groups`: their messages, the wires, and their lines.
-use Rattle.std.proofs.Common.{◌≡◌, ◌≢◌, ◌∙◌, refl, sym, ap, subst, Bool, true, false, cond, eqb, ◌||◌, ◌⊎◌, inl, inr, ◌++◌, ℕ, zero, suc, ℤ, ◌+◌, ◌^◌, ◌<◌, ◌≤◌, List, [], ◌∷◌, length, map, set, get_or, drop, take, ◌-◌, append-nil, append_assoc, length-append, arith}
+use Rattle.std.proofs.Common.{◌≡◌, ◌≢◌, ◌∙◌, refl, sym, ap, subst, Bool, true, false, cond, eqb, ◌||◌, inl, inr, ◌++◌, ℕ, zero, suc, ℤ, ◌+◌, ◌^◌, ◌<◌, ◌≤◌, List, [], ◌∷◌, length, map, set, get_or, drop, take, ◌-◌, append-nil, append_assoc, length-append, arith}
 use Rattle.std.proofs.lemmas.Bool.{eqb-true}
 use Rattle.std.proofs.lemmas.List.{get_or-append-add, get_or-take, get_or_append_left, take_all}
 use Rattle.std.proofs.lemmas.List.Elements.{All-tail}
@@ -12,7 +12,7 @@ use Rattle.agreed_rows.specs.Answers.{rows_in, sizes_over as agreed_sizes}
 use Rattle.bucket_groups.specs.Ending.{opened_groups}
 use Rattle.bucket_groups.specs.Grouped.{grouped}
 use Rattle.bucket_groups.specs.declared.check.GroupAnswer.{GroupAnswer}
-use Rattle.bucket_groups.specs.declared.check.GroupAnswer.TheVariants.{Good, Altered}
+use Rattle.bucket_groups.specs.declared.check.GroupAnswer.TheVariants.{Good}
 use Rattle.list_facts.proofs.Listed.{length-listed}
 use Rattle.list_facts.specs.Listed.{listed}
 use Rattle.onehot_column.specs.Code.{width_of, word_of}

@@ -1,5 +1,5 @@
 -- The work of `groups`: queries by the buckets of a column, one after another over all rows.
-use Rattle.std.specs.Prelude.{◌≡◌, ◌⊎◌, ⊤, ℕ, ℤ, ◌+◌, ◌^◌, ◌<◌, if◌then◌else◌, List, [], ◌∷◌, ◌++◌, All, length, map, slice_index}
+use Rattle.std.specs.Prelude.{◌≡◌, ◌⊎◌, ⊤, ℕ, ℤ, ◌+◌, ◌^◌, ◌<◌, List, [], ◌∷◌, ◌++◌, All, length, map, slice_index}
 use Rattle.agreed_groups.specs.Answers.{groups_over, judged_groups}
 use Rattle.agreed_rows.specs.Agreed.{Entries}
 use Rattle.bucket_groups.specs.Grouped.{grouped}
@@ -23,7 +23,6 @@ use Rattle.schedule_play.specs.Tasks.{IsSetting, Setting}
 use Rattle.schedule_play.specs.Traces.{sizes_over}
 use Rattle.table_schema.specs.declared.shapes.Aggregate.{Aggregate}
 use Rattle.table_schema.specs.declared.widths.Widths.{Widths}
-use Rattle.transcript.specs.Plain.{plain}
 use Rattle.transcript.specs.Setup.{Setup}
 use Rattle.transcript.specs.Steps.{opening, place_of}
 use Rattle.transcript.specs.Transcript.{IsPart, IsTranscript}

@@ -13,8 +13,8 @@ use Rattle.waldo_run.specs.Buckets.{AreBuckets, ArePlainBuckets, BeginsBuckets, 
 use Rattle.waldo_run.specs.Tasks.{bits_of, setting_of, task_over}
 use Rattle.waldo_run.specs.Trees.{BeginsRange, HasRange, IsPlainRange, IsRange}
 
--- the steps of a task; or the one query of a setting over the rows at the places from low to high - 1; or queries by the buckets of a column
--- of these bits, over all rows
+-- the steps of a task; or the one query of a setting over the rows at the places from low to high - 1; or queries by the buckets of a
+-- column over all rows, with the bits of the columns
 pub data Work : Type 0 where
   Steps : Task → Work
   Range : Setting → ℕ → ℕ → Work

@@ -1,11 +1,8 @@
 //! The command that answers by the buckets of a column.
 ghost use Rattle.std.specs.Prelude.{◌≡◌, ◌≢◌, ◌+◌, ◌<◌, ◌≤◌, ◌++◌, ℕ, List, IfOk, OnErr, OnOk, length};
-ghost use Rattle.std.specs.List.{list_any};
 ghost use Rattle.bucket_groups.specs.Seen.{group_trace};
-ghost use Rattle.race_play.specs.Reports.{is_altered};
 ghost use Rattle.schedule_play.specs.History.{AreHonest, Done};
 ghost use Rattle.schedule_play.specs.Plays.{seen};
-ghost use Rattle.schedule_play.specs.Tasks.{IsSetting};
 ghost use Rattle.schedule_play.specs.Traces.{sizes_over};
 ghost use Rattle.schedule_play.specs.Wires.{Carried, Unaltered, WireWent};
 ghost use Rattle.table_schema.specs.Widths.{column_bits};
@@ -35,13 +32,7 @@ use visit_trace::Trace;
 use wire_line::Wire;
 
 // The line of a bucket.
-fn bucket_line(
-    index: u64,
-    rows: u64,
-    aggregate: Aggregate,
-    bucket: u8,
-    answer: GroupAnswer,
-) -> Line
+fn bucket_line(index: u64, rows: u64, aggregate: Aggregate, bucket: u8, answer: GroupAnswer) -> Line
     ensures { result ≡ bucket_line index rows aggregate bucket answer }
 {
     match answer {

@@ -239,7 +239,8 @@ pub fn run_still<R: Threads + Sync, S: Source, K: Sink, W: Wire>(
     ensures altered { result ≡ 7 → ¬ AltersNothing (command_in (map string_bytes words.now))
         ⊎ SomeRose W.sight wires.old.items wires.new.items }
     // The trace grew by the traces of the queries that were answered, one after another: each follows from how many rows it was asked over,
-    // from their widths and from its shape. Of refused words or rows the servers see nothing. Out of memory it grew by a prefix of these.
+    // from their widths, from its shape and, by buckets, from its column. Of refused words or rows the servers see nothing. Out of memory
+    // it grew by a prefix of these.
     ensures trace { Traces (command_in (map string_bytes words.now)) (change S.sight source.old source.new) trace.old trace.new result }
 {
     schedule_play::laws::asked_in_order();

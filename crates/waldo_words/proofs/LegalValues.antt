@@ -1,5 +1,5 @@
 -- What was read is legal.
-use Rattle.std.proofs.Common.{◌≡◌, refl, subst, ap, ℕ, ◌+◌, ◌<◌, ◌≤◌, Bool, true, false, List, [], ◌∷◌, length, Option, Some, None, Result, Ok, Err, IfOk, IfSome, All, nat_le, nat_lt, unwrap_or, arith, length-append}
+use Rattle.std.proofs.Common.{◌≡◌, refl, subst, ap, ℕ, ◌<◌, ◌≤◌, Bool, true, false, List, [], ◌∷◌, length, Option, Some, None, Result, Ok, Err, IfOk, IfSome, All, nat_le, nat_lt, unwrap_or, arith, length-append}
 use Rattle.std.proofs.lemmas.List.Elements.{All-head, All-nil, All-push}
 use Rattle.query_plan.specs.declared.group.GroupQuery.{GroupQuery}
 use Rattle.query_plan.specs.declared.query.Query.{Query}

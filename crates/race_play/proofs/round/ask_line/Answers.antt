@@ -1,4 +1,5 @@
 use Rattle.std.proofs.Common.{List}
+use Rattle.std.proofs.lemmas.Result.{IfOk-weaker}
 use Rattle.wire_line.specs.Messages.{Went}
 use Rattle.wire_line.specs.declared.message.Message.{Message}
 use Rattle.race_play.proofs.Asking.{asks_when_ok, breaks_when_err}
@@ -14,3 +15,8 @@ returns-clause-broken g c =
     let h = c.ask-asked.ensures.asked in
     breaks_when_err c.args.table.now.widths c.args.pass.now c.ask-asked.new.pass c.args.who _ c.args.query.now c.args.seed.now h.0 h.1 c.ask-asked.result c.line_of_ask.result
     (λ (ms : List Message). Went g.W.Wire.sight c.args.wire.now ms c.ask-asked.new.wire) h.2 h.3 c.line_of_ask.ensures
+
+pub returns-clause-plain : goal.returns-clause-plain
+returns-clause-plain g c =
+    let a = returns-clause-asks g c in
+    λ still. IfOk-weaker c.line_of_ask.result _ _ (λ line h. h.honest (a.2.honest still)) a.3

@@ -1,12 +1,7 @@
-use Rattle.std.proofs.Common.{◌≡◌, ◌∙◌, ap, length, sym, subst}
-use Rattle.agreed_rows.specs.Agreed.{Entries}
+use Rattle.std.proofs.Common.{ap, subst}
 use Rattle.bucket_groups.specs.Seen.{group_trace}
-use Rattle.schedule_play.proofs.AppendedRows.{length-seeded_rows}
-use Rattle.schedule_play.specs.Appended.{seeded_rows}
 use Rattle.schedule_play.specs.Plays.{seen}
-use Rattle.schedule_play.specs.Traces.{sizes_over}
 use Rattle.visit_trace.specs.Seen.{AllSeen, GrewBy}
-use Rattle.waldo_run.specs.Buckets.{entries_in}
 use Rattle.waldo_run.proofs.Grouping.{few_answers, group_asked, same_sizes}
 use Rattle.waldo_run.proofs.groups.ask_group.Goals as goal
 
