@@ -29,7 +29,6 @@ use Rattle.waldo_run.specs.Buckets.{group_traces}
 use Rattle.waldo_run.specs.Grown.{Sees, SeesAt, SeesIn, SeesPart, Traces, TracesOf, sizes_by, trace_by}
 use Rattle.waldo_run.specs.Replies.{IsReplyOf, Reply}
 use Rattle.waldo_run.specs.Tasks.{AreWidthsIn, common_in, reads_input, rows_in, rows_made, setting_of}
-use Rattle.waldo_run.specs.Works.{PlaysSteps}
 use Rattle.waldo_run.proofs.Begun.{read_suits, unread_suits}
 
 -- ---- the steps of a command
@@ -108,18 +107,6 @@ groups_add command c groups said w v rows seen a b result is same setting these 
     subst (λ (t : AllSeen). GrewBy a b t result)
     (ap (λ (u : Widths). group_traces u (length seen.rows) said) same ∙ ap (λ (s : Setting). group_traces w (length s.rows) said) setting
     ∙ ap (group_traces w (length rows)) these ∙ sym (ap (λ (x : Command). trace_by x w rows) is)) g
-
--- steps
-pub steps_add : (command : Command) (w : Widths) (rows : List Row) → PlaysSteps command rows → (a b : AllSeen) (result : Result Reply Memory)
-    → GrewBy a b (traces_of (sizes_by command w rows)) result → GrewBy a b (trace_by command w rows) result
-steps_add (commands.Ask c) w rows plays a b result g = g
-steps_add (commands.Replay c schedule) w rows plays a b result g = g
-steps_add (commands.Race c writers askers rounds) w rows plays a b result g = g
-steps_add (commands.Make c number count) w rows plays a b result g = g
-steps_add (commands.Trace c) w rows plays a b result g = g
-steps_add (commands.Tamper c shifts) w rows plays a b result g = g
-steps_add (commands.Tree c low high) w rows plays a b result g = g
-steps_add (commands.Groups c groups) w rows plays a b result g = absurd cc
 
 -- nothing was seen, as memory ran out
 pub no_sees : (command : Command) (w : Widths) → AreWidthsIn command w → (rows : Result (List Row) RowFault) (t : AllSeen) → SeesIn command (GrewPrefix t t) rows

@@ -1,7 +1,7 @@
 -- The clause that a user reads first, from the clauses on the whole run.
 use Rattle.std.proofs.Common.{◌≡◌, ◌∙◌, refl, ap, subst, ℕ, ◌≤◌, List, length}
 use Rattle.std.proofs.lemmas.Bool.{le-leb}
-use Rattle.std.specs.Prelude.{Option, None, Some, Result, Ok, Err}
+use Rattle.std.specs.Prelude.{Option, None, Some, Result, Ok}
 use Rattle.fault_count.specs.Causes.{Rose}
 use Rattle.fault_count.specs.Streams.{Change}
 use Rattle.row_source.specs.Input.{most_bytes}

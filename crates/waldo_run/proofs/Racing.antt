@@ -27,7 +27,7 @@ use Rattle.visit_trace.specs.Growing.{prefix_whole}
 use Rattle.visit_trace.specs.Seen.{AllSeen, Grew, SawMore, Seen, alike, nothing}
 use Rattle.waldo_words.specs.Legal.{IsRace}
 use Rattle.waldo_words.specs.Options.{command_named}
-use Rattle.waldo_words.specs.Words.{after_command, after_schema, beginning, command_of, command_with, finished, is_some_of, options_from}
+use Rattle.waldo_words.specs.Words.{after_command, after_schema, beginning, command_of, command_with, finished, has_query, options_from}
 use Rattle.waldo_words.specs.declared.command.Common.{Common}
 use Rattle.waldo_words.specs.declared.command.Command.{Command}
 use Rattle.waldo_words.specs.declared.command.Command.TheVariants as commands
@@ -201,7 +201,7 @@ both P (Ok x) f c each e = each x refl e
 of_found : (words : List (List ℕ)) (k : _) (columns : List Column) (found : _) (c : Command) → ok_or (command_named (codes "race")) (Word 0) ≡ Ok k → finished words k columns found ≡ Ok c → IsRacing c
 unfolding command_named finished
 of_found words k columns found c is e =
-    both IsRacing (guard (is_some_of found.queries) (Missing (codes "--query"))) (λ _. ok_or (command_named (codes "race")) (Word 0) >>= λ r. command_with words r columns found) c
+    both IsRacing (guard (has_query found) (Missing (codes "--query"))) (λ _. ok_or (command_named (codes "race")) (Word 0) >>= λ r. command_with words r columns found) c
     (λ _ _ q. subst IsRacing (ok_same q) tt) (rw (← ok_same is) at e)
 
 of_options : (columns : List Column) (words : List (List ℕ)) (c : Command)

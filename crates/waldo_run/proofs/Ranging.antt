@@ -5,7 +5,6 @@ use Rattle.std.proofs.lemmas.List.{length-drop, length-take, take_all}
 use Rattle.agreed_rows.specs.Agreed.{Entries}
 use Rattle.query_plan.specs.KeyMessages.{Asked}
 use Rattle.row_tree.specs.declared.exchange.TreePair.{TreePair}
-use Rattle.scan_chunks.specs.Pieces.{Pieces}
 use Rattle.schedule_play.specs.AllAgreed.{core_agreed}
 use Rattle.waldo_core.specs.Answers.{rows_agreed}
 use Rattle.waldo_core.specs.Core.{Core}

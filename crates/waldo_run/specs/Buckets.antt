@@ -23,7 +23,6 @@ use Rattle.schedule_play.specs.Tasks.{IsSetting, Setting}
 use Rattle.schedule_play.specs.Traces.{sizes_over}
 use Rattle.table_schema.specs.declared.shapes.Aggregate.{Aggregate}
 use Rattle.table_schema.specs.declared.widths.Widths.{Widths}
-use Rattle.transcript.specs.Plain.{plain}
 use Rattle.transcript.specs.Setup.{Setup}
 use Rattle.transcript.specs.Steps.{opening, place_of}
 use Rattle.transcript.specs.Transcript.{IsPart, IsTranscript}

@@ -1,5 +1,5 @@
 -- What a run does to its source, its wires and its sink, and with what status it ends.
-use Rattle.std.specs.Prelude.{◌≡◌, ◌≢◌, ◌<◌, ◌⊎◌, ⊤, false, ℕ, nat_le, if◌then◌else◌, Option}
+use Rattle.std.specs.Prelude.{◌≡◌, ◌≢◌, ◌<◌, ◌⊎◌, ⊤, false, ℕ, nat_le, if◌then◌else◌}
 use Rattle.std.specs.Prelude.{Result, Ok, Err, OnErr, IfOk, List, [], length}
 use Rattle.std.specs.Io.KnownBytes.{Keeps, Appends}
 use Rattle.fault_count.specs.Causes.{Rose}

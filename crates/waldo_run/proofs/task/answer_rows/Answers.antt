@@ -3,7 +3,7 @@ use Rattle.schedule_play.specs.Plays.{seen}
 use Rattle.waldo_words.specs.Legal.{IsLegal}
 use Rattle.waldo_words.specs.declared.command.Command.{Command}
 use Rattle.waldo_run.specs.Tasks.{AreWidthsIn, common_in}
-use Rattle.waldo_run.proofs.Growing.{groups_add, range_adds, steps_add}
+use Rattle.waldo_run.proofs.Growing.{groups_add, range_adds}
 use Rattle.waldo_run.proofs.Grouping.{buckets_answered}
 use Rattle.waldo_run.proofs.Ranging.{range_answered}
 use Rattle.waldo_run.proofs.Settings.{groups_legal, range_legal}
