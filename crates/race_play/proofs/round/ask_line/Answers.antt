@@ -1,5 +1,4 @@
 use Rattle.std.proofs.Common.{List}
-use Rattle.std.proofs.lemmas.Result.{IfOk-weaker}
 use Rattle.wire_line.specs.Messages.{Went}
 use Rattle.wire_line.specs.declared.message.Message.{Message}
 use Rattle.race_play.proofs.Asking.{asks_when_ok, breaks_when_err}
@@ -26,8 +25,3 @@ pub returns-clause-trace_first : goal.returns-clause-trace_first
 returns-clause-trace_first g c =
     line_first c.args.table.now.widths c.ask-asked.new.pass c.args.query.now c.args.trace.now c.ask-asked.new.trace c.floor.ensures.legal.floor c.args.who _ c.ask-asked.result c.line_of_ask.result
     c.ask-asked.ensures.trace c.line_of_ask.ensures
-
-pub returns-clause-plain : goal.returns-clause-plain
-returns-clause-plain g c =
-    let a = returns-clause-asks g c in
-    λ still. IfOk-weaker c.line_of_ask.result _ _ (λ line h. h.honest (a.2.honest still)) a.3
