@@ -26,8 +26,8 @@ use Rattle.waldo_words.specs.declared.command.Command.TheVariants as commands
 use Rattle.waldo_words.specs.declared.faults.WordFault.{WordFault}
 use Rattle.waldo_words.specs.declared.shifts.ShiftWord.{ShiftWord}
 use Rattle.wire_line.specs.declared.message.Message.{Message}
-use Rattle.visit_trace.specs.Seen.{AllSeen}
 use Rattle.waldo_run.specs.Buckets.{plain_group_lines}
+use Rattle.visit_trace.specs.Seen.{AllSeen}
 use Rattle.waldo_run.specs.Complete.{EndsChecked, EndsPlainly, EndsRaced, EndsWith, GivesRows, HaveCases, IsAccepted, StepsHaveCases}
 use Rattle.waldo_run.specs.Races.{RacedFrom, RacedIn, RacedOver, Races, crew_of}
 use Rattle.waldo_run.specs.Replies.{Answering, Reply, checked_answer, ended, plain_answer, plain_in, range_line, reply_over, reply_to, rows_reply, single}

@@ -1,6 +1,6 @@
 -- What a race comes to.
 use Rattle.std.proofs.Common.{◌≡◌, ◌∙◌, ◌⊎◌, inl, inr, refl, sym, ap, subst, ℕ, ◌≤◌, Bool, true, false, codes, cond, List, [], ◌∷◌, All, append-nil, length, arith}
-use Rattle.std.specs.Prelude.{◌≢◌, Result, Ok, Err, IfOk, OnErr, nat_lt, ok_or}
+use Rattle.std.specs.Prelude.{◌≢◌, Result, Ok, Err, IfOk, OnErr, ok_or}
 use Rattle.std.specs.List.{list_any}
 use Rattle.std.proofs.lemmas.Slice.Eq.{bytes_eq-Decides}
 use Rattle.query_plan.specs.Query.{AreWidthsOf}
@@ -26,12 +26,11 @@ use Rattle.text_reading.specs.Reading.{◌>>=◌, guard}
 use Rattle.visit_trace.specs.Growing.{prefix_whole}
 use Rattle.visit_trace.specs.Seen.{AllSeen, Grew, SawMore, Seen, alike, nothing}
 use Rattle.waldo_words.specs.Legal.{IsRace}
-use Rattle.waldo_words.specs.Options.{command_named, times_found}
-use Rattle.waldo_words.specs.Words.{after_command, after_schema, beginning, command_of, command_with, finished, options_from}
+use Rattle.waldo_words.specs.Options.{command_named}
+use Rattle.waldo_words.specs.Words.{after_command, after_schema, beginning, command_of, command_with, finished, has_query, options_from}
 use Rattle.waldo_words.specs.declared.command.Common.{Common}
 use Rattle.waldo_words.specs.declared.command.Command.{Command}
 use Rattle.waldo_words.specs.declared.command.Command.TheVariants as commands
-use Rattle.waldo_words.specs.declared.names.OptionName.TheVariants as option
 use Rattle.waldo_words.specs.declared.faults.WordFault.{WordFault}
 use Rattle.waldo_words.specs.declared.faults.WordFault.TheVariants.{Missing, Word}
 use Rattle.wire_line.specs.declared.message.Message.{Message}
@@ -146,6 +145,7 @@ module _ (a b : AllSeen) where
   command_part (Ok (commands.Trace c)) reading sent reply r = absurd r
   command_part (Ok (commands.Tamper c shifts)) reading sent reply r = absurd r
   command_part (Ok (commands.Tree c low high)) reading sent reply r = absurd r
+  command_part (Ok (commands.Groups c groups)) reading sent reply r = absurd r
 
   -- a reply that could not be put, as memory ran out
   pub replied_part : (command : Result Command WordFault) (source : Change) (carried : List (List Message) → Type 0) (reply : Reply) → RaceReplies command source carried (Grew a b) reply
@@ -202,7 +202,7 @@ both P (Ok x) f c each e = each x refl e
 of_found : (words : List (List ℕ)) (k : _) (columns : List Column) (found : _) (c : Command) → ok_or (command_named (codes "race")) (Word 0) ≡ Ok k → finished words k columns found ≡ Ok c → IsRacing c
 unfolding command_named finished
 of_found words k columns found c is e =
-    both IsRacing (guard (nat_lt 0 (times_found found option.Query)) (Missing (codes "--query"))) (λ _. ok_or (command_named (codes "race")) (Word 0) >>= λ r. command_with words r columns found) c
+    both IsRacing (guard (has_query found) (Missing (codes "--query"))) (λ _. ok_or (command_named (codes "race")) (Word 0) >>= λ r. command_with words r columns found) c
     (λ _ _ q. subst IsRacing (ok_same q) tt) (rw (← ok_same is) at e)
 
 of_options : (columns : List Column) (words : List (List ℕ)) (c : Command)

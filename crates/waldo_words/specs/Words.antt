@@ -142,10 +142,14 @@ command_with words name.Tamper columns found = tampered (common_of columns found
 command_with words name.Tree columns found = ranged words (common_of columns found) found.from found.to
 command_with words name.Groups columns found = Ok (commands.Groups (common_of columns found) found.groups)
 
+-- `--query` stood once at least
+abbrev pub has_query : Found → Bool
+has_query found = nat_lt 0 (times_found found option.Query)
+
 -- every command wants a query, before all else
 unfoldable pub finished : List (List ℕ) → CommandName → List Column → Found → Result Command WordFault
 finished words command columns found =
-    guard (nat_lt 0 (times_found found option.Query)) (Missing (codes "--query")) >>= λ _. command_with words command columns found
+    guard (has_query found) (Missing (codes "--query")) >>= λ _. command_with words command columns found
 
 -- nothing said yet
 abbrev pub beginning : Progress
