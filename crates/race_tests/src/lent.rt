@@ -48,6 +48,7 @@ fn ask<R: Abort + Threads + Wait + Sync>(
 {
     let query = query(rt, table.widths(), Aggregate::Count);
     let mut wire = StraightWire::new();
+    let mut trace = Trace::new(alloc);
     ask_round(
         rt,
         alloc,
@@ -58,7 +59,7 @@ fn ask<R: Abort + Threads + Wait + Sync>(
         0,
         &master(),
         &mut wire,
-        &mut Trace::new(alloc),
+        &mut trace,
         2,
         &OpenGate,
     )

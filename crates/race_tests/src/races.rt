@@ -100,7 +100,8 @@ fn a_race(rt: HostRuntime) -> Result<(), Memory> {
     for _ in 0..10 {
         let mut wires = record_wires(alloc)?;
         assert_eq!(rt; wires.len(), 3);
-        let ran = run(&rt, alloc, &mut wires, &mut Trace::new(alloc))?;
+        let mut trace = Trace::new(alloc);
+        let ran = run(&rt, alloc, &mut wires, &mut trace)?;
         let carried = [
             wires[0].messages().len(),
             wires[1].messages().len(),
@@ -140,7 +141,8 @@ fn a_race_with_an_altered_message(rt: HostRuntime) -> Result<(), Memory> {
     let alloc = rt.alloc();
     let mut wires = shift_wires(alloc)?;
     assert_eq!(rt; wires.len(), 2);
-    let ran = run(&rt, alloc, &mut wires, &mut Trace::new(alloc))?;
+    let mut trace = Trace::new(alloc);
+    let ran = run(&rt, alloc, &mut wires, &mut trace)?;
     let ends = b"end 0 rows 6 altered total 4 weighted 11631277917209493303\nend 1 rows 6 sum 21\n";
     let outcome = outcome_of(alloc, &ran, b"rows 6\nplace 0 row ", ends)?;
     assert_eq!(rt; (outcome, ran.altered), ((15, 0b11_1111, true, true), true));
