@@ -7,11 +7,15 @@ use Rattle.std.specs.List.{AllZip}
 use Rattle.list_facts.specs.Listed.{listed}
 use Rattle.list_facts.proofs.Listed.{length-listed, get_or-listed, listed_is, listed_same}
 use Rattle.ring128.specs.Ring.{plus, times, dot_of, sums, sums3}
-use Rattle.ring128.proofs.Laws.{length-sums}
+use Rattle.ring128.proofs.Laws.{inward, length-sums}
 use Rattle.share_product.specs.Product.{local_of, inner_of}
 use Rattle.scan_chunks.specs.Pieces.{row_of, chunk_of}
 use Rattle.scan_chunks.proofs.Chunks.{row_in_chunk, rows_in}
 use Rattle.bucket_groups.specs.Ending.{places_of, sums_of, with_rows}
+
+-- the local product of a pair with a pair of cells, by two products of which one factor each is the same for all cells
+pub local_by_both : (f s x y : ℕ) → plus (times (plus f s) x) (times f y) ≡ local_of f s x y
+local_by_both f s x y = simp inward (omega arith)
 
 -- the sum of the first numbers
 abbrev pub sum_to : (ℕ → ℕ) → ℕ → ℕ

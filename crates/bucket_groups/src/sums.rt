@@ -9,9 +9,8 @@ ghost use Rattle.scan_chunks.specs.Scan.{visits_of, VisitsPart};
 ghost use Rattle.bucket_groups.specs.Ending.{sums_of, with_rows};
 
 use replicated_share::Pair;
-use ring128::{Memory, Words, add};
+use ring128::{Memory, Words, add, mul};
 use scan_chunks::{Shelf, row};
-use share_product::local;
 use std::alloc::Global;
 
 // Adds to each place the local product of a pair with the pair of cells at that place.
@@ -21,12 +20,10 @@ fn add_row(to: &mut [u128], by: Pair, first: &[u128], second: &[u128])
     ensures { to.new ≡ listed (length to.old) (λ b. plus (slice_index to.old b)
         (local_of by.first by.second (slice_index first.now b) (slice_index second.now b))) }
 {
+    let both = add(by.first, by.second);
     for b in 0..to.len() {
-        let cell = Pair {
-            first: first[b],
-            second: second[b],
-        };
-        to[b] = add(to[b], local(by, cell));
+        let part = add(mul(both, first[b]), mul(by.first, second[b]));
+        to[b] = add(to[b], part);
     }
 }
 
