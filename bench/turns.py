@@ -25,6 +25,8 @@ MEMORY = {
     "large, heap, bound": (HEAP, True),
     "large, heap, bound, 32 MiB ahead": (HEAP + ":glibc.malloc.top_pad=33554432", True),
     "large, heap, bound, one arena": (HEAP + ":glibc.malloc.arena_max=1", True),
+    "large, heap, bound, two arenas": (HEAP + ":glibc.malloc.arena_max=2", True),
+    "large, heap, bound, four arenas": (HEAP + ":glibc.malloc.arena_max=4", True),
 }
 
 

@@ -37,7 +37,7 @@ await() {
 # The servers' cells come to some hundred MiB. In large pages, all from the heap, the system hands them out sooner; a C library that can't
 # ask so goes on without. With the library bound at the start it is no chance whether large pages come: docs/DECISIONS.md says why.
 # Under a limit on memory nothing is set, so that no answer hangs on it.
-memory_setting=glibc.malloc.hugetlb=1:glibc.malloc.mmap_threshold=1073741824:glibc.malloc.trim_threshold=1073741824:glibc.malloc.arena_max=1
+memory_setting=glibc.malloc.hugetlb=1:glibc.malloc.mmap_threshold=1073741824:glibc.malloc.trim_threshold=1073741824:glibc.malloc.arena_max=4
 set_memory() {
   local overcommit= limits=
   [ -z "${GLIBC_TUNABLES+set}" ] || return
