@@ -7,7 +7,8 @@ use Rattle.std.proofs.lemmas.List.Sums.{count_by-le-length, length-filter}
 use Rattle.list_facts.proofs.Listed.{get_or-listed, length-listed}
 use Rattle.ring128.specs.Ring.{times}
 use Rattle.ring128.specs.declared.memory.Memory.{Memory}
-use Rattle.onehot_column.specs.Code.{word_of, width_of}
+use Rattle.onehot_column.specs.Code.{width_of}
+use Rattle.ring128.specs.Signed.{word_of}
 use Rattle.prg_chacha.specs.declared.seed.Seed.{Seed}
 use Rattle.query_plan.specs.KeyMessages.{Asked}
 use Rattle.query_plan.specs.Laws.{AreKeysOf}

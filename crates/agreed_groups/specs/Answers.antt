@@ -1,7 +1,8 @@
 -- The messages of a query by buckets over rows that were agreed on, what they open, and the answers.
 use Rattle.std.specs.Prelude.{ℕ, ℤ, ◌≡◌, Result, Ok, Err, List, length, map}
 use Rattle.ring128.specs.declared.memory.Memory.{Memory}
-use Rattle.onehot_column.specs.Code.{word_of, width_of}
+use Rattle.onehot_column.specs.Code.{width_of}
+use Rattle.ring128.specs.Signed.{word_of}
 use Rattle.prg_chacha.specs.declared.seed.Seed.{Seed}
 use Rattle.query_plan.specs.Seeds.{weights_of}
 use Rattle.query_plan.specs.Views.{key_from}

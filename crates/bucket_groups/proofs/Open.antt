@@ -17,7 +17,8 @@ use Rattle.wire_line.specs.Carried.{honest_at}
 use Rattle.table_schema.specs.declared.rows.Row.{Row}
 use Rattle.table_schema.specs.declared.shapes.Aggregate.{Aggregate}
 use Rattle.table_schema.specs.declared.shapes.Aggregate.TheVariants.{Count, Sum}
-use Rattle.onehot_column.specs.Code.{word_of, width_of, code_at}
+use Rattle.onehot_column.specs.Code.{width_of, code_at}
+use Rattle.ring128.specs.Signed.{word_of}
 use Rattle.query_plan.specs.declared.query.Query.{Query}
 use Rattle.query_plan.specs.Views.{key_from}
 use Rattle.transcript.specs.Setup.{Setup, Ending, count_of}

@@ -3,7 +3,8 @@ use Rattle.std.specs.Prelude.{ℕ, ℤ, ◌≡◌, ◌==◌, Bool, List, map, fi
 use Rattle.list_facts.specs.Listed.{listed}
 use Rattle.table_schema.specs.declared.rows.Row.{Row}
 use Rattle.ring128.specs.Ring.{times}
-use Rattle.onehot_column.specs.Code.{word_of, width_of}
+use Rattle.onehot_column.specs.Code.{width_of}
+use Rattle.ring128.specs.Signed.{word_of}
 use Rattle.query_plan.specs.KeyMessages.{Asked}
 use Rattle.query_plan.specs.Seeds.{weights_of}
 use Rattle.query_plan.specs.Views.{key_from}

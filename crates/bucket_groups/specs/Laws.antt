@@ -4,7 +4,8 @@ use Rattle.ring128.specs.Ring.{times}
 use Rattle.wire_line.specs.declared.message.Message.{Message}
 use Rattle.wire_line.specs.Messages.{IsHonest}
 use Rattle.table_schema.specs.declared.rows.Row.{Row}
-use Rattle.onehot_column.specs.Code.{word_of, width_of}
+use Rattle.onehot_column.specs.Code.{width_of}
+use Rattle.ring128.specs.Signed.{word_of}
 use Rattle.query_plan.specs.declared.query.Query.{Query}
 use Rattle.query_plan.specs.Views.{key_from}
 use Rattle.transcript.specs.Setup.{Setup, Sizes}

@@ -16,7 +16,8 @@ use Rattle.table_schema.specs.Widths.{code_length, column_bits}
 use Rattle.table_schema.specs.declared.rows.Row.{Row}
 use Rattle.table_schema.specs.declared.widths.Widths.{Widths}
 use Rattle.table_schema.proofs.WidthLaws.{code_more}
-use Rattle.onehot_column.specs.Code.{word_of, one_hot, width_of, code_at, code_of, start_of, cells_at}
+use Rattle.onehot_column.specs.Code.{one_hot, width_of, code_at, code_of, start_of, cells_at}
+use Rattle.ring128.specs.Signed.{word_of}
 use Rattle.onehot_column.specs.Laws.{CodeParts, PiecesShare, ValueIsLast}
 
 -- ---- one column after the other

@@ -1,15 +1,10 @@
 -- The code of a row, and its part at a column.
-use Rattle.std.specs.Prelude.{ℕ, ℤ, pos, negsuc, ◌+◌, ◌%◌, ◌^◌, ◌==◌, if◌then◌else◌, List, [], ◌∷◌, take, drop, slice_index, sum_by}
+use Rattle.std.specs.Prelude.{ℕ, ◌+◌, ◌^◌, ◌==◌, if◌then◌else◌, List, [], ◌∷◌, take, drop, slice_index, sum_by}
 use Rattle.std.specs.List.{flat_map, range_with_len}
 use Rattle.list_facts.specs.Listed.{listed}
-use Rattle.ring128.specs.Ring.{negative}
+use Rattle.ring128.specs.Signed.{word_of}
 use Rattle.table_schema.specs.declared.rows.Row.{Row}
 use Rattle.table_schema.specs.declared.widths.Widths.{Widths}
-
--- a value modulo 2 ^ 128
-abbrev pub word_of : ℤ → ℕ
-word_of (pos n) = n % 2 ^ 128
-word_of (negsuc n) = negative (n + 1)
 
 -- `size` numbers, 1 at a place and 0 elsewhere
 abbrev pub one_hot : ℕ → ℕ → List ℕ

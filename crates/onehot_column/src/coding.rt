@@ -1,6 +1,7 @@
 ghost use Rattle.std.specs.Prelude.{◌≡◌, ◌+◌, ◌≤◌, ◌++◌, IfOk, vec_len, vec_capacity};
 ghost use Rattle.table_schema.specs.Widths.{Holds};
-ghost use Rattle.onehot_column.specs.Code.{word_of, one_hot, code_of};
+ghost use Rattle.onehot_column.specs.Code.{one_hot, code_of};
+ghost use Rattle.ring128.specs.Signed.{word_of};
 
 use ring128::{Memory, Words, neg};
 use std::alloc::Global;

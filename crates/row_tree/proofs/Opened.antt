@@ -23,7 +23,8 @@ use Rattle.transcript.specs.Plain.{passes, plain, answer_of}
 use Rattle.transcript.specs.Shifts.{no_row}
 use Rattle.transcript.proofs.Shifted.{column_there}
 use Rattle.replicated_share.specs.Share.{AreShares}
-use Rattle.onehot_column.specs.Code.{code_at, width_of, word_of}
+use Rattle.onehot_column.specs.Code.{code_at, width_of}
+use Rattle.ring128.specs.Signed.{word_of}
 use Rattle.onehot_column.proofs.CodeLaws.{code_below, width_below}
 use Rattle.query_plan.specs.KeyMessages.{Asked}
 use Rattle.query_plan.specs.Seeds.{weights_of}

@@ -9,7 +9,8 @@ use Rattle.table_schema.specs.declared.rows.Row.{Row}
 use Rattle.table_schema.specs.declared.shapes.Aggregate.TheVariants.{Count}
 use Rattle.table_schema.specs.declared.widths.Widths.{Widths}
 use Rattle.table_schema.specs.Widths.{Holds}
-use Rattle.onehot_column.specs.Code.{code_at, width_of, word_of}
+use Rattle.onehot_column.specs.Code.{code_at, width_of}
+use Rattle.ring128.specs.Signed.{word_of}
 use Rattle.query_plan.specs.declared.query.Query.{Query}
 use Rattle.query_plan.specs.KeyMessages.{Asked}
 use Rattle.query_plan.specs.Laws.{AreKeysOf}

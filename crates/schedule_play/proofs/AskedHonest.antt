@@ -10,7 +10,7 @@ use Rattle.report_lines.specs.declared.lines.Line.{Line}
 use Rattle.server_rounds.specs.declared.opened.OpenedPair.{OpenedPair}
 use Rattle.table_schema.specs.declared.rows.Row.{Row}
 use Rattle.table_schema.specs.declared.widths.Widths.{Widths}
-use Rattle.onehot_column.specs.Code.{word_of}
+use Rattle.ring128.specs.Signed.{word_of}
 use Rattle.transcript.specs.Laws.{PlainIsSmall}
 use Rattle.transcript.specs.Plain.{plain as plain_answer}
 use Rattle.weighted_check.specs.declared.Altered.{Altered}

@@ -10,7 +10,7 @@ use Rattle.report_lines.specs.declared.lines.Who.TheVariants.{Single}
 use Rattle.server_rounds.specs.declared.opened.OpenedPair.{OpenedPair}
 use Rattle.prg_chacha.specs.Prg.{derive_of}
 use Rattle.table_schema.specs.declared.widths.Widths.{Widths}
-use Rattle.onehot_column.specs.Code.{word_of}
+use Rattle.ring128.specs.Signed.{word_of}
 use Rattle.transcript.specs.Plain.{plain}
 use Rattle.visit_trace.specs.Seen.{AllSeen, Grew}
 use Rattle.wire_line.specs.Messages.{IsHonest}

@@ -1,7 +1,7 @@
 -- What steps come to where nothing is altered.
 use Rattle.std.specs.Prelude.{ℕ, ◌+◌, ⊤, IfSome, Option, Some, None, List, [], ◌∷◌, length, slice_get}
 use Rattle.server_rounds.specs.declared.opened.OpenedPair.{OpenedPair}
-use Rattle.onehot_column.specs.Code.{word_of}
+use Rattle.ring128.specs.Signed.{word_of}
 use Rattle.prg_chacha.specs.declared.seed.Seed.{Seed}
 use Rattle.query_plan.specs.declared.query.Query.{Query}
 use Rattle.report_lines.specs.declared.lines.Line.{Line}

@@ -10,7 +10,7 @@ use Rattle.wire_line.specs.declared.message.Message.{Message}
 use Rattle.table_schema.specs.declared.rows.Row.{Row}
 use Rattle.table_schema.specs.declared.shapes.Aggregate.{Aggregate}
 use Rattle.table_schema.specs.declared.shapes.Aggregate.TheVariants.{Count, Sum}
-use Rattle.onehot_column.specs.Code.{word_of}
+use Rattle.ring128.specs.Signed.{word_of}
 use Rattle.query_plan.specs.declared.query.Predicate.{Predicate}
 use Rattle.query_plan.specs.declared.query.Query.{Query}
 use Rattle.query_plan.specs.Query.{predicate_at}

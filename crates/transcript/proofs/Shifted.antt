@@ -19,7 +19,8 @@ use Rattle.table_schema.specs.declared.shapes.Aggregate.TheVariants.{Count, Sum}
 use Rattle.table_schema.specs.declared.shapes.Part.{Part}
 use Rattle.table_schema.specs.declared.shapes.Shape.{Shape}
 use Rattle.table_schema.specs.declared.widths.Widths.{Widths}
-use Rattle.onehot_column.specs.Code.{word_of, width_of, code_at}
+use Rattle.onehot_column.specs.Code.{width_of, code_at}
+use Rattle.ring128.specs.Signed.{word_of}
 use Rattle.query_plan.specs.declared.query.Predicate.{Predicate}
 use Rattle.query_plan.specs.declared.query.Query.{Query}
 use Rattle.query_plan.specs.Query.{predicate_at, shaped, no_predicate, Suits, IsPlaced}

@@ -9,7 +9,7 @@ use Rattle.std.specs.List.{All}
 use Rattle.table_schema.specs.declared.widths.Widths.{Widths}
 use Rattle.table_schema.specs.Limits.{IsValue}
 use Rattle.table_schema.specs.Widths.{Holds}
-use Rattle.onehot_column.specs.Code.{word_of}
+use Rattle.ring128.specs.Signed.{word_of}
 use Rattle.transcript.specs.Plain.{sum_of, answer_of, passes}
 use Rattle.transcript.specs.Laws.{PlainIsSmall}
 

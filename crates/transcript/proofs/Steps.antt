@@ -15,7 +15,7 @@ use Rattle.ring128.specs.Ring.{sums3}
 use Rattle.ring128.specs.Laws.{IsThree}
 use Rattle.list_facts.proofs.Listed.{listed_more}
 use Rattle.table_schema.specs.declared.rows.Row.{Row}
-use Rattle.onehot_column.specs.Code.{word_of}
+use Rattle.ring128.specs.Signed.{word_of}
 use Rattle.query_plan.specs.declared.query.Predicate.{Predicate}
 use Rattle.transcript.specs.Plain.{sum_of}
 use Rattle.query_plan.specs.Views.{key_from}

@@ -6,7 +6,7 @@ use Rattle.wire_line.specs.declared.message.Message.{Message}
 use Rattle.table_schema.specs.declared.rows.Row.{Row}
 use Rattle.table_schema.specs.declared.widths.Widths.{Widths}
 use Rattle.table_schema.specs.Widths.{Holds}
-use Rattle.onehot_column.specs.Code.{word_of}
+use Rattle.ring128.specs.Signed.{word_of}
 use Rattle.query_plan.specs.declared.query.Query.{Query}
 use Rattle.query_plan.specs.KeyMessages.{message_length}
 use Rattle.query_plan.specs.Query.{shaped, Suits}

@@ -1,6 +1,6 @@
 -- The messages of an event, what they open, and when it is the plain answer.
 use Rattle.std.specs.Prelude.{◌≡◌, ℕ, ⊤, Option, Some, None, List, [], take, slice_get}
-use Rattle.onehot_column.specs.Code.{word_of}
+use Rattle.ring128.specs.Signed.{word_of}
 use Rattle.prg_chacha.specs.declared.seed.Seed.{Seed}
 use Rattle.query_plan.specs.Seeds.{weights_of}
 use Rattle.query_plan.specs.Views.{key_from}

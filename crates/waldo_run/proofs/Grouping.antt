@@ -15,7 +15,8 @@ use Rattle.bucket_groups.specs.declared.check.GroupAnswer.{GroupAnswer}
 use Rattle.bucket_groups.specs.declared.check.GroupAnswer.TheVariants.{Good}
 use Rattle.list_facts.proofs.Listed.{length-listed}
 use Rattle.list_facts.specs.Listed.{listed}
-use Rattle.onehot_column.specs.Code.{width_of, word_of}
+use Rattle.onehot_column.specs.Code.{width_of}
+use Rattle.ring128.specs.Signed.{word_of}
 use Rattle.prg_chacha.specs.declared.seed.Seed.{Seed}
 use Rattle.query_plan.specs.declared.group.GroupQuery.{GroupQuery}
 use Rattle.query_plan.specs.declared.query.Query.{Query}

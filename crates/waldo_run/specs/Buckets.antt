@@ -8,7 +8,7 @@ use Rattle.bucket_groups.specs.Seen.{group_trace}
 use Rattle.bucket_groups.specs.declared.check.GroupAnswer.{GroupAnswer}
 use Rattle.bucket_groups.specs.declared.check.GroupAnswer.TheVariants.{Good, Altered}
 use Rattle.list_facts.specs.Listed.{listed}
-use Rattle.onehot_column.specs.Code.{word_of}
+use Rattle.ring128.specs.Signed.{word_of}
 use Rattle.prg_chacha.specs.Prg.{derive_of}
 use Rattle.prg_chacha.specs.declared.seed.Seed.{Seed}
 use Rattle.query_plan.specs.Query.{Suits}

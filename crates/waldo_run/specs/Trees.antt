@@ -1,7 +1,8 @@
 -- The query of `tree`: its messages, and what they open.
 use Rattle.std.specs.Prelude.{ℕ, ◌≡◌, ◌<◌, ◌≤◌, ⊤, Result, Ok, List, [], ◌∷◌, length, slice_index_or}
 use Rattle.agreed_rows.specs.Answers.{judged}
-use Rattle.onehot_column.specs.Code.{width_of, word_of}
+use Rattle.onehot_column.specs.Code.{width_of}
+use Rattle.ring128.specs.Signed.{word_of}
 use Rattle.prg_chacha.specs.Prg.{derive_of}
 use Rattle.prg_chacha.specs.declared.seed.Seed.{Seed}
 use Rattle.query_plan.specs.KeyMessages.{Asked}

@@ -1,6 +1,6 @@
 use Rattle.std.proofs.Common.{◌≡◌, ◌*◌, ◌^◌, ◌%◌, get_or, ◌∙◌, arith, rules}
 use Rattle.table_schema.proofs.WidthLaws.{shifted}
-use Rattle.onehot_column.specs.Code.{word_of}
+use Rattle.ring128.specs.Signed.{word_of}
 use Rattle.onehot_column.proofs.CodeLaws.{column_more, value_more, start_more, width_below}
 use Rattle.onehot_column.proofs.coding.code.Goals as goal
 
