@@ -458,6 +458,19 @@ check_schema() {
     "$(cd "$tree" && READ=yes TEXT= bash -c "$(sed -n '/^  awk/,$p' <<<"$out")" | paste -sd ' ' -)"
   call schema "$file" nothing
   is "a column that isn't there" 2 "$status"
+  printf 'day,value\n0,-45\n1,30\n' >"$file"
+  call schema "$file"
+  has "values below zero" "-45 to 30" "$out"
+  has "which need no change" "ask day:1 --query \"count day=0\" < " "$out"
+  printf 'a,b,c,d,e,f,g,Degrees\n0,1,0,1,0,1,0,-4.5\n1,1,0,1,0,1,0,-0.25\n' >"$file"
+  call schema "$file"
+  has "six columns and decimals below zero" "a:1,b:1,c:1,d:1,e:1,f:1 --query" "$out"
+  has "the seventh is left out" "g is left out: a schema has at most six columns" "$out"
+  is "its command makes whole numbers" "a,b,c,d,e,f,value 0,1,0,1,0,1,-450 1,1,0,1,0,1,-25" \
+    "$(cd "$tree" && READ=yes TEXT= bash -c "$(sed -n '/^  awk/,$p' <<<"$out")" | paste -sd ' ' -)"
+  printf 'day,value\n0,-4294967296\n' >"$file"
+  call schema "$file" day value
+  is "a value that is too far below zero" "2 1" "$status $(grep -c 'from -4294967295 to 4294967295' <<<"$err")"
   call schema /nonexistent
   is "a file that isn't there" 3 "$status"
 }
