@@ -8,6 +8,8 @@ mod groups;
 #[cfg(test)]
 mod races;
 #[cfg(test)]
+mod rows;
+#[cfg(test)]
 mod runs;
 #[cfg(test)]
 mod tampers;
