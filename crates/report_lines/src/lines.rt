@@ -38,7 +38,7 @@ pub enum Line {
         who: Who,
         rows: u64,
         aggregate: Aggregate,
-        total: u64,
+        total: i64,
     },
     /// The check refused the opened total and weighted total.
     Altered {
@@ -97,7 +97,7 @@ pub enum Line {
     Tree {
         low: u64,
         high: u64,
-        total: u64,
+        total: i64,
         nodes: u64,
     },
     /// The check refused the total and weighted total that were opened for a range of places.
@@ -111,7 +111,7 @@ pub enum Line {
         bucket: u8,
         rows: u64,
         aggregate: Aggregate,
-        total: u64,
+        total: i64,
     },
     /// The check refused the total and weighted total that such a query opened for a bucket.
     GroupAltered {
