@@ -1,5 +1,5 @@
 -- Plain answers are small.
-use Rattle.std.proofs.Common.{◌≡◌, ℕ, ◌+◌, ◌*◌, ◌^◌, ◌<◌, ◌≤◌, Bool, true, false, cond, List, [], ◌∷◌, length, map, filter, ℤ, pos, negsuc, suc, refl, sym, ap, ◌∙◌, arith}
+use Rattle.std.proofs.Common.{◌≡◌, ℕ, ◌+◌, ◌*◌, ◌^◌, ◌<◌, ◌≤◌, Bool, true, false, cond, List, [], ◌∷◌, length, map, filter, ℤ, pos, negsuc, suc, refl, ap, arith}
 use Rattle.std.proofs.lemmas.List.Sums.{count_by-le-length, length-filter}
 use Rattle.std.proofs.lemmas.Int.{ints}
 use Rattle.table_schema.specs.declared.rows.Row.{Row}
@@ -9,7 +9,7 @@ use Rattle.std.specs.List.{All}
 use Rattle.table_schema.specs.declared.widths.Widths.{Widths}
 use Rattle.table_schema.specs.Limits.{IsValue}
 use Rattle.table_schema.specs.Widths.{Holds}
-use Rattle.ring128.specs.Signed.{word_of}
+use Rattle.ring128.specs.Signed.{size_of}
 use Rattle.transcript.specs.Plain.{sum_of, answer_of, passes}
 use Rattle.transcript.specs.Laws.{PlainIsSmall}
 
@@ -47,12 +47,9 @@ answer_up_to Count w p rows held few =
 answer_up_to Sum w p rows held few =
     let s = sum_up_to w p rows held in record { size = s.size; is = s.is; bound = omega (arith, s.bound) }
 
-small_word : (z : ℤ) → IsUpTo (65536 * 4294967295) z → (z ≡ pos (word_of z)) × (word_of z < 2 ^ 48)
-small_word z u =
-    let below : u.size < 2 ^ 48 = omega (arith, u.bound) in
-    let same : word_of z ≡ u.size = ap word_of u.is ∙ omega arith in
-    (u.is ∙ ap pos (sym same), omega arith)
+small_size : (z : ℤ) → IsUpTo (65536 * 4294967295) z → size_of z < 2 ^ 48
+small_size z u = omega (arith, ap size_of u.is, u.bound)
 
 pub plain_is_small : PlainIsSmall
 plain_is_small w query rows held few =
-    small_word (answer_of query.aggregate (filter (passes query) rows)) (answer_up_to query.aggregate w (passes query) rows held few)
+    small_size (answer_of query.aggregate (filter (passes query) rows)) (answer_up_to query.aggregate w (passes query) rows held few)
