@@ -17,7 +17,7 @@ pub enum RowWhy {
     Number,
     /// A number has no bucket in its column.
     Domain,
-    /// The number of the last field is above the greatest value.
+    /// The last field has a size above the greatest value.
     Value,
 }
 
@@ -33,7 +33,7 @@ pub enum Who {
 /// A line of a report.
 #[derive(Drop)]
 pub enum Line {
-    /// The count or sum over the first `rows` rows.
+    /// The count or sum over the first `rows` rows. A sum may be negative.
     Answer {
         who: Who,
         rows: u64,
@@ -105,7 +105,8 @@ pub enum Line {
         total: u128,
         weighted: u128,
     },
-    /// The count or sum over those of `rows` rows that have a bucket, of the query by the buckets of a column with this index.
+    /// The count or sum, which may be negative, over those of `rows` rows that have a bucket, of the query by the buckets of a column with
+    /// this index.
     Group {
         index: u64,
         bucket: u8,
