@@ -52,26 +52,26 @@ const SUMS: [Case; 11] = [
     ),
     // The openings of server 0, altered in both runs, past 0, and in the first alone.
     (
-        "tamper|t:2|--query|sum t=1|--shift|9:0:3|--shift|18:0:key*3",
+        "tamper|t:2|--query|sum t=1|--shift|6:0:3|--shift|12:0:key*3",
         THREE,
         0,
         "ask 0 rows 3 sum 1\n",
     ),
     (
-        "tamper|t:2|--query|sum t=1|--shift|9:0:1",
+        "tamper|t:2|--query|sum t=1|--shift|6:0:1",
         THREE,
         7,
         "ask 0 rows 3 altered total 340282366920938463463374607431768211455 weighted 340282366920938463441000884872164341830\n",
     ),
     // Of a size of 2^63 - 1, and of 2^63.
     (
-        "tamper|t:2|--query|sum t=1|--shift|9:0:340282366920938463454151235394913435651|--shift|18:0:key*340282366920938463454151235394913435651",
+        "tamper|t:2|--query|sum t=1|--shift|6:0:340282366920938463454151235394913435651|--shift|12:0:key*340282366920938463454151235394913435651",
         THREE,
         0,
         "ask 0 rows 3 sum -9223372036854775807\n",
     ),
     (
-        "tamper|t:2|--query|sum t=1|--shift|9:0:340282366920938463454151235394913435650|--shift|18:0:key*340282366920938463454151235394913435650",
+        "tamper|t:2|--query|sum t=1|--shift|6:0:340282366920938463454151235394913435650|--shift|12:0:key*340282366920938463454151235394913435650",
         THREE,
         7,
         "ask 0 rows 3 altered total 340282366920938463454151235394913435648 weighted 237101783412639867901028905254022807552\n",
