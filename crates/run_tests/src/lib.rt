@@ -14,4 +14,6 @@ mod runs;
 #[cfg(test)]
 mod tampers;
 #[cfg(test)]
+mod totals;
+#[cfg(test)]
 mod trees;
