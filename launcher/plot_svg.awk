@@ -29,7 +29,7 @@ function draw_scale(query, from,    i, at, step) {
   step = (high - low) / 4
   for (i = 0; i <= 4; i++) {
     at = from + tall - i * tall / 4
-    printf "<path d=\"M%d %dH%d\" stroke=\"#ddd\"/>\n", left, at, left + wide
+    if (at != zero) printf "<path d=\"M%d %dH%d\" stroke=\"#ddd\"/>\n", left, at, left + wide
     if ((high - low) * i % 4 == 0) print label(left - 8, at + 4, "end", sprintf("%.0f", low + step * i), "")
   }
   print label(20, from + tall / 2, "start", sort[query] == "" ? "total" : sort[query], "")
