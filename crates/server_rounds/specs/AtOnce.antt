@@ -21,14 +21,6 @@ pub record CanScan {S : Type 0} (held : S → Held) (z : Sizes) (keys : KeysRead
   pub tables : HasTables z keys
   pub rows : AreShelves z.widths z.rows (map held shelves)
 
--- the shelves before and after, and the numbers of the bits
-pub record GivesNumbers {S : Type 0} (held : S → Held) (visited : S → List Visit) (z : Sizes) (keys : KeysRead) (run j : ℕ)
-    (old new : List S) (result : Result (List ℕ) Memory) : Type 0 where
-  pub same : map held new ≡ map held old
-  pub long : IfOk result (λ w. length w ≡ z.rows)
-  pub numbers : IfOk result (λ w. w ≡ bit_numbers z run (view_from keys) (pieces_of (map held old)) j)
-  pub visits : AreVisited held visited (column_of z j ∷ []) old new result
-
 -- how many pairs a server holds, where all hold equally many
 abbrev pub count_in : Pairs → ℕ
 count_in pairs = length pairs.zero.first
