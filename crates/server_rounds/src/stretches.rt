@@ -41,7 +41,8 @@ fn scan_to<R: Threads + Sync, S: Shelf + Send>(
     to: &mut [u128],
 ) -> Result<(), Memory>
     requires { CanScanTo S.held column tables.now shelves.old to.old }
-    ensures { WritesTo S.held S.visited column (scans_of S.held column tables.now shelves.old) shelves.old shelves.new (λ _. to.new) result }
+    ensures { WritesTo S.held S.visited column (scans_of S.held column tables.now shelves.old)
+        shelves.old shelves.new (λ _. to.new) result }
 {
     let numbers = scan_many(rt, alloc, shelves, column, tables)?;
     to.copy_from_slice(numbers.as_slice());
@@ -228,7 +229,8 @@ fn fill_both<R: Threads + Sync, S: Shelf + Send>(
     };
     let mut second = || -> Result<(), Memory>
         requires { IsSync R.row × IsSend S.row
-            × CanFill S.held column tables.now later zero_rest.now one_rest.now two_rest.now at_zero_rest.now at_one_rest.now at_two_rest.now }
+            × CanFill S.held column tables.now later zero_rest.now one_rest.now two_rest.now
+            at_zero_rest.now at_one_rest.now at_two_rest.now }
         ensures { Fills S.held S.visited column tables.entry.now keys.entry.now later
             zero_rest.entry.now zero_rest.exit.now one_rest.entry.now one_rest.exit.now two_rest.entry.now two_rest.exit.now
             (λ _. at_zero_rest.exit.now) (λ _. at_one_rest.exit.now) (λ _. at_two_rest.exit.now) result }
