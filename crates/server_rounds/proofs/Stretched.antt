@@ -1,11 +1,10 @@
 -- Words that are written shelf by shelf, and those of two stretches.
-use Rattle.std.proofs.Common.{◌≡◌, ◌∙◌, refl, sym, ap, subst, ℕ, ◌+◌, ◌*◌, ◌<◌, ◌≤◌, ◌^◌, List, [], ◌∷◌, ◌++◌, length, take, drop, map, All, Result, Ok, Err, IfOk, OnErr, OnOk, length-append, length-drop, take-append-drop, min, ◌-◌, arith}
+use Rattle.std.proofs.Common.{◌≡◌, ◌∙◌, refl, sym, ap, subst, ℕ, ◌+◌, ◌<◌, ◌≤◌, List, [], ◌∷◌, ◌++◌, length, take, drop, map, All, Result, Ok, Err, IfOk, OnErr, OnOk, length-append, length-drop, take-append-drop, arith}
 use Rattle.std.proofs.lemmas.List.{length-take}
 use Rattle.std.proofs.lemmas.List.Elements.{All-take, All-drop}
-use Rattle.std.specs.List.{AllZip, flat_map}
+use Rattle.std.specs.List.{AllZip}
 use Rattle.std.specs.Result.{IsErr, IsOk}
 use Rattle.std.proofs.lemmas.Grind.{flat_map-append}
-use Rattle.list_facts.specs.Count.{total}
 use Rattle.list_facts.proofs.Count.{total-append}
 use Rattle.list_facts.proofs.Listed.{length-listed}
 use Rattle.query_plan.specs.KeyMessages.{KeysRead}
@@ -14,7 +13,7 @@ use Rattle.scan_chunks.specs.Scan.{row_number, scan_of, visits_of, VisitsPart}
 use Rattle.scan_chunks.specs.Shelf.{Held}
 use Rattle.scan_chunks.specs.declared.tables.Tables.{Tables}
 use Rattle.scan_chunks.specs.declared.visit.Visit.{Visit}
-use Rattle.scan_chunks.proofs.Shelves.{on_err, on_ok, part_whole, zip_weaker}
+use Rattle.scan_chunks.proofs.Shelves.{part_none, part_whole, zip_weaker}
 use Rattle.onehot_column.specs.Code.{width_of}
 use Rattle.query_plan.specs.KeyMessages.{view_from}
 use Rattle.ring128.proofs.Laws.{length-sums}
@@ -42,6 +41,10 @@ scans_long held column tables [] = refl
 scans_long held column tables (x ∷ xs) =
     let row = row_number tables.zero tables.one ((held x).width column) ((held x).pieces.first column) ((held x).pieces.second column) in
     omega (arith, length-append (scan_of (held x) column tables.zero tables.one) (scans_of held column tables xs), length-listed (held x).rows row, scans_long held column tables xs)
+
+zip_self : {A : Type 0} (Q : A → A → Type 0) → ((x : A) → Q x x) → (xs : List A) → AllZip Q xs xs
+zip_self Q same [] = tt
+zip_self Q same (x ∷ xs) = (same x, zip_self Q same xs)
 
 pub zip_both : {A : Type 0} (Q : A → A → Type 0) (xs ys us vs : List A) → AllZip Q xs ys → AllZip Q us vs → AllZip Q (xs ++ us) (ys ++ vs)
 zip_both Q [] [] us vs z w = w
@@ -273,3 +276,59 @@ fill_back held column near cut tables start zero one two x y w are can = record 
 pub cut_within : {S : Type 0} (held : S → Held) (column near cut : ℕ) (tables : ThreeTables) (start : ℕ) (zero one two : List S) (x y w : List ℕ)
     → AreCut held near cut zero one two → CanFill held column tables start zero one two x y w → cut ≤ length x
 cut_within held column near cut tables start zero one two x y w are can = omega (arith, are.rows0, can.at0.long, rows_parted held near zero)
+
+-- a scan whose numbers are kept
+pub scan_kept : {S : Type 0} (held : S → Held) (visited : S → List Visit) (column : ℕ) (tables : Tables) (old new : List S) (r : Result (List ℕ) Memory)
+    → AllZip (λ s t. held t ≡ held s) old new → IfOk r (λ w. w ≡ scans_of held column tables old)
+    → OnOk r (AllZip (λ s t. visited t ≡ visited s ++ visits_of (held s) column) old new)
+    → OnErr r (AllZip (λ s t. VisitsPart (visited s) (visited t) (visits_of (held s) column)) old new)
+    → WritesTo held visited column (scans_of held column tables old) old new (λ w. w) r
+scan_kept held visited column tables old new r same written visits part = record { same = same; written = written; visits = visits; part = part }
+
+-- a scan that had memory, and its numbers with their parts of zero
+pub scan_zeroed : {S U : Type 0} (held : S → Held) (visited : S → List Visit) (column : ℕ) (tables : Tables) (keys : KeysRead) (start : ℕ) (old new : List S) (numbers : List ℕ)
+    (r : Result (List ℕ) Memory) (at : U → List ℕ) (y : U) → r ≡ Ok numbers → WritesTo held visited column (scans_of held column tables old) old new (λ w. w) r
+    → at y ≡ zeroed keys start numbers → WritesTo held visited column (zeroed keys start (scans_of held column tables old)) old new at (Ok y)
+scan_zeroed held visited column tables keys start old new numbers r at y e k is =
+    let P : Result (List ℕ) Memory → Type 0 = λ q. WritesTo held visited column (scans_of held column tables old) old new (λ (w : List ℕ). w) q in
+    let done : WritesTo {T = List ℕ} held visited column (scans_of held column tables old) old new (λ w. w) (Ok numbers) = subst P e k in
+    record { same = done.same; written = is ∙ ap (zeroed keys start) done.written; visits = done.visits; part = tt }
+
+-- as many numbers as the server has rows
+pub scan_whole : {S : Type 0} (held : S → Held) (z : Sizes) (column : ℕ) (tables : Tables) (xs lent : List S) → AreShelves z.widths z.rows (map held xs) → lent ≡ xs
+    → length (scans_of held column tables lent) ≡ z.rows
+scan_whole held z column tables xs lent are same =
+    scans_long held column tables lent ∙ ap (rows_in held) same ∙ sym (total-map (λ (h : Held). h.rows) held xs) ∙ are.count
+
+-- the numbers of a scan are as many as there are rows
+pub kept_long : {S : Type 0} (held : S → Held) (column : ℕ) (tables : Tables) (old : List S) (numbers : List ℕ) (r : Result (List ℕ) Memory)
+    → r ≡ Ok numbers → IfOk r (λ w. w ≡ scans_of held column tables old) → length numbers ≡ rows_in held old
+kept_long held column tables old numbers r e written =
+    let P : Result (List ℕ) Memory → Type 0 = λ q. IfOk q (λ (w : List ℕ). w ≡ scans_of held column tables old) in
+    let same : numbers ≡ scans_of held column tables old = subst P e written in
+    ap length same ∙ scans_long held column tables old
+
+-- nothing was done for want of memory
+pub none_written : {S T : Type 0} (held : S → Held) (visited : S → List Visit) (column : ℕ) (words : List ℕ) (xs : List S) (to : T → List ℕ) (q : Result T Memory)
+    → IsErr q → WritesTo held visited column words xs xs to q
+none_written held visited column words xs to (Ok x) e = absurd cc
+none_written held visited column words xs to (Err m) e = record {
+  same = zip_self (λ s t. held t ≡ held s) (λ s. refl) xs;
+  written = tt;
+  visits = tt;
+  part = zip_self (λ s t. VisitsPart (visited s) (visited t) (visits_of (held s) column)) (λ s. part_none (visited s) (visits_of (held s) column)) xs;
+}
+
+-- other lists with a place for each row
+pub fill_other : {S : Type 0} (held : S → Held) (column : ℕ) (tables : ThreeTables) (start : ℕ) (zero one two : List S) (x y w x' y' w' : List ℕ) (n : ℕ)
+    → CanFill held column tables start zero one two x y w → rows_in held zero ≡ n → length x' ≡ n → length y' ≡ n → length w' ≡ n
+    → CanFill held column tables start zero one two x' y' w'
+fill_other held column tables start zero one two x y w x' y' w' n can count ex ey ew = record {
+  at0 = record { ready = can.at0.ready; long = omega (arith, ex, count) };
+  at1 = record { ready = can.at1.ready; long = omega (arith, ey, count, can.at0.long, can.at1.long, can.long1) };
+  at2 = record { ready = can.at2.ready; long = omega (arith, ew, count, can.at0.long, can.at2.long, can.long2) };
+  long1 = omega (arith, ex, ey);
+  long2 = omega (arith, ex, ew);
+  few = omega (arith, ex, count, can.at0.long, can.few);
+  counters = omega (arith, ex, count, can.at0.long, can.counters);
+}

@@ -1,16 +1,16 @@
 -- What a server's part of a step needs and gives, each in one fact.
-use Rattle.std.specs.Prelude.{ℕ, ◌≡◌, ◌<◌, List, [], ◌∷◌, length, map, Result, Ok, IfOk}
+use Rattle.std.specs.Prelude.{ℕ, ◌≡◌, ◌<◌, List, length, map, Result, Ok, IfOk}
 use Rattle.ring128.specs.declared.memory.Memory.{Memory}
 use Rattle.scan_chunks.specs.Shelf.{Held}
 use Rattle.scan_chunks.specs.declared.visit.Visit.{Visit}
-use Rattle.query_plan.specs.KeyMessages.{KeysRead, view_from}
+use Rattle.query_plan.specs.KeyMessages.{KeysRead}
 use Rattle.query_plan.specs.Views.{View}
-use Rattle.transcript.specs.Setup.{Sizes, column_of, count_of}
+use Rattle.transcript.specs.Setup.{Sizes, count_of}
 use Rattle.transcript.specs.Formulas.{opening_words}
 use Rattle.server_rounds.specs.declared.carry.Trio.{Trio}
 use Rattle.server_rounds.specs.Groups.{Pairs, AreLong, first_of, second_of}
 use Rattle.server_rounds.specs.Plans.{HasTables}
-use Rattle.server_rounds.specs.Rounds.{bit_numbers, locals_at}
+use Rattle.server_rounds.specs.Rounds.{locals_at}
 use Rattle.server_rounds.specs.Shelves.{AreShelves, pieces_of}
 use Rattle.server_rounds.specs.Visits.{AreVisited, opened_columns}
 

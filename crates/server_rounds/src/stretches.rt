@@ -1,21 +1,21 @@
 //! The words of the three servers' bits, in stretches of rows: a thread makes those of its rows for all three.
 ghost use denote.Param.Send.{IsSend, IsSync};
-ghost use Rattle.std.specs.Prelude.{◌≡◌, ◌<◌, ◌≤◌, ◌+◌, map, length, IfOk, OnOk, MatchOption, ⊤};
+ghost use Rattle.std.specs.Prelude.{◌≡◌, ◌<◌, ◌≤◌, ◌+◌, length, IfOk, OnOk, MatchOption, ⊤};
 ghost use Rattle.std.specs.Result.{IsOk};
-ghost use Rattle.onehot_column.specs.Code.{width_of};
 ghost use Rattle.query_plan.specs.KeyMessages.{view_from};
-ghost use Rattle.transcript.specs.Setup.{column_of, count_of};
+ghost use Rattle.transcript.specs.Setup.{count_of};
 ghost use Rattle.server_rounds.specs.AtOnce.{CanScan};
 ghost use Rattle.server_rounds.specs.Plans.{HasTables, HaveTables};
-ghost use Rattle.server_rounds.specs.Shelves.{AreShelves};
 ghost use Rattle.server_rounds.specs.Stretches.{AreAllTables, AreCut, AreTables, BothFill, CanFill, CanScanTo, Fills, GivesBits};
 ghost use Rattle.server_rounds.specs.Stretches.{WritesTo, rows_in, scans_of};
 
+use crate::at_once::all_three;
 use crate::carry::Trio;
 use crate::keys::ThreeKeys;
 use crate::part::seeds_of;
 use crate::plan::Plan;
 use crate::shelves::{count_rows, rows_together};
+use crate::zeros::with_three_zeros;
 use query_plan::ServerKeys;
 use ring128::{Memory, Party, Words};
 use scan_chunks::{Shelf, Tables, scan_many};
@@ -41,7 +41,8 @@ fn scan_to<R: Threads + Sync, S: Shelf + Send>(
     to: &mut [u128],
 ) -> Result<(), Memory>
     requires { CanScanTo S.held column tables.now shelves.old to.old }
-    ensures { WritesTo S.held S.visited column (scans_of S.held column tables.now shelves.old) shelves.old shelves.new (λ _. to.new) result }
+    ensures { WritesTo S.held S.visited column (scans_of S.held column tables.now shelves.old)
+        shelves.old shelves.new (λ _. to.new) result }
 {
     let numbers = scan_many(rt, alloc, shelves, column, tables)?;
     to.copy_from_slice(numbers.as_slice());
@@ -228,7 +229,8 @@ fn fill_both<R: Threads + Sync, S: Shelf + Send>(
     };
     let mut second = || -> Result<(), Memory>
         requires { IsSync R.row × IsSend S.row
-            × CanFill S.held column tables.now later zero_rest.now one_rest.now two_rest.now at_zero_rest.now at_one_rest.now at_two_rest.now }
+            × CanFill S.held column tables.now later zero_rest.now one_rest.now two_rest.now
+            at_zero_rest.now at_one_rest.now at_two_rest.now }
         ensures { Fills S.held S.visited column tables.entry.now keys.entry.now later
             zero_rest.entry.now zero_rest.exit.now one_rest.entry.now one_rest.exit.now two_rest.entry.now two_rest.exit.now
             (λ _. at_zero_rest.exit.now) (λ _. at_one_rest.exit.now) (λ _. at_two_rest.exit.now) result }
@@ -290,6 +292,31 @@ fn three_tables(
     })
 }
 
+// The words of all rows in one thread, at one server after another. What was scanned is kept, so that no list is filled before.
+fn scan_all<R: Threads + Sync, S: Shelf + Send>(
+    rt: &R,
+    alloc: Global,
+    column: u8,
+    tables: &ThreeTables,
+    keys: &ThreeKeys,
+    start: u64,
+    zero: &mut [S],
+    one: &mut [S],
+    two: &mut [S],
+) -> Result<Trio, Memory>
+    requires rows { CanFill S.held column tables.now start zero.old one.old two.old
+        (scans_of S.held column tables.now.zero zero.old) (scans_of S.held column tables.now.one one.old)
+        (scans_of S.held column tables.now.two two.old) }
+    ensures { Fills S.held S.visited column tables.now keys.now start zero.old zero.new one.old one.new two.old two.new
+        (λ t. t.zero) (λ t. t.one) (λ t. t.two) result }
+{
+    let first = scan_many(rt, alloc, zero, column, &tables.zero);
+    let second = scan_many(rt, alloc, one, column, &tables.one);
+    let third = scan_many(rt, alloc, two, column, &tables.two);
+    let numbers = all_three(first, (second, third))?;
+    Ok(with_three_zeros(rt, keys, start, 1, numbers))
+}
+
 // A list for each server with a place for each row.
 fn room(alloc: Global, rows: usize) -> Result<Trio, Memory>
     ensures zero { IfOk result (λ t. length t.zero ≡ rows) }
@@ -344,6 +371,33 @@ fn fill_room<R: Threads + Sync, S: Shelf + Send>(
     })
 }
 
+// The words of all rows, in one thread where a server has one shelf.
+fn words_by_shelves<R: Threads + Sync, S: Shelf + Send>(
+    rt: &R,
+    alloc: Global,
+    rows: usize,
+    column: u8,
+    tables: &ThreeTables,
+    keys: &ThreeKeys,
+    start: u64,
+    zero: &mut [S],
+    one: &mut [S],
+    two: &mut [S],
+) -> Result<Trio, Memory>
+    requires count { rows_in S.held zero.old ≡ rows }
+    requires rows { CanFill S.held column tables.now start zero.old one.old two.old
+        (scans_of S.held column tables.now.zero zero.old) (scans_of S.held column tables.now.one one.old)
+        (scans_of S.held column tables.now.two two.old) }
+    ensures { Fills S.held S.visited column tables.now keys.now start zero.old zero.new one.old one.new two.old two.new
+        (λ t. t.zero) (λ t. t.one) (λ t. t.two) result }
+{
+    if zero.len() < 2 {
+        return scan_all(rt, alloc, column, tables, keys, start, zero, one, two);
+    }
+    let room = room(alloc, rows)?;
+    fill_room(rt, alloc, column, tables, keys, start, zero, one, two, room)
+}
+
 /// The servers' words of the bits of predicate j. The rows are cut into as many stretches as each server has shelves, each in a thread of
 /// its own where one can be made.
 pub(crate) fn bits_at_once<R: Threads + Sync, S: Shelf + Send>(
@@ -370,10 +424,10 @@ pub(crate) fn bits_at_once<R: Threads + Sync, S: Shelf + Send>(
     let column = plan.column(j);
     let start = plan.bits_counter(run, j);
     let tables = three_tables(alloc, plan, keys, run, j)?;
-    let room = room(alloc, rows as usize)?;
-    let words = fill_room(
+    let words = words_by_shelves(
         rt,
         alloc,
+        rows as usize,
         column,
         &tables,
         keys,
@@ -381,7 +435,6 @@ pub(crate) fn bits_at_once<R: Threads + Sync, S: Shelf + Send>(
         zero.as_mut_slice(),
         one.as_mut_slice(),
         two.as_mut_slice(),
-        room,
     )?;
     Ok(words)
 }

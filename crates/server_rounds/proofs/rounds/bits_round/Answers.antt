@@ -1,4 +1,4 @@
-use Rattle.std.proofs.Common.{◌≡◌, ◌∙◌, sym, ap, [], ◌∷◌, length, refl, rules}
+use Rattle.std.proofs.Common.{◌∙◌, sym, ap, [], ◌∷◌, length, refl, rules}
 use Rattle.list_facts.proofs.Listed.{length-listed}
 use Rattle.wire_line.specs.Carried.{went_none}
 use Rattle.server_rounds.proofs.Messages.{group_none, regroup, three_same}

@@ -1,4 +1,4 @@
-use Rattle.std.proofs.Common.{rules, refl, arith, length, ◌+◌, ◌≤◌}
+use Rattle.std.proofs.Common.{rules, refl, length, ◌+◌}
 use Rattle.server_rounds.proofs.Stretched.{cut_within, fill_back, fill_front, fills_both}
 use Rattle.server_rounds.proofs.stretches.+stretches.Goals as goal
 
