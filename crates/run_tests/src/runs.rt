@@ -488,7 +488,7 @@ fn alterations(rt: HostRuntime) -> Result<(), Fail> {
             (COUNT, INPUT, 0, "ask 0 rows 3 count 3\n"),
             &[(6, 0, 1), (12, 0, KEY)],
         ),
-        // The relation is kept, and the total is 2^64 and more.
+        // The relation is kept, and the total's signed reading is 2^64 and more.
         (
             (
                 COUNT,
