@@ -1,5 +1,5 @@
 -- The line of an ask.
-use Rattle.std.proofs.Common.{◌≡◌, ◌∙◌, sym, ap, inl, inr, ℕ, List}
+use Rattle.std.proofs.Common.{◌≡◌, ◌∙◌, sym, ap, inl, inr, ℕ, ℤ, List}
 use Rattle.std.specs.Prelude.{IfOk, OnErr, Result, Ok, Err}
 use Rattle.prg_chacha.specs.declared.seed.Seed.{Seed}
 use Rattle.query_plan.specs.declared.query.Query.{Query}
@@ -26,7 +26,7 @@ asks_by w p q who rows query seed ms pair (Ok a) line asked plain floor is =
     let same : lines.Answer who rows query.aggregate a.total ≡ line = cc in record {
       agrees = asked.0;
       opens = asked.1;
-      honest = λ honest. sym same ∙ ap (λ (n : ℕ). lines.Answer who n query.aggregate a.total) floor ∙ ap (λ (t : ℕ). lines.Answer who q.floor query.aggregate t) (plain honest);
+      honest = λ honest. sym same ∙ ap (λ (n : ℕ). lines.Answer who n query.aggregate a.total) floor ∙ ap (λ (t : ℤ). lines.Answer who q.floor query.aggregate t) (plain honest);
       says = sym same ∙ ap (λ (n : ℕ). lines.Answer who n query.aggregate a.total) floor ∙ ap (answer_line who q.floor query.aggregate) (sym asked.2);
     }
 asks_by w p q who rows query seed ms pair (Err (ask.Altered total weighted)) line asked plain floor is =
