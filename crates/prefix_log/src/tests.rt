@@ -92,7 +92,7 @@ fn a_place_keeps_its_first_piece(rt: HostRuntime) -> Result<(), Memory> {
     let after = scan(&rt, alloc, &mut snapshot)?;
     assert_eq!(rt; before.as_slice(), after.as_slice());
     assert_eq!(rt; snapshot.rows(), 2);
-    snapshot.cut(1);
+    snapshot.cut(0, 1);
     assert_eq!(rt; (snapshot.rows(), snapshot.visits().len()), (1, 1));
     let cut = scan(&rt, alloc, &mut snapshot)?;
     assert!(rt; after.as_slice().starts_with(cut.as_slice()) && cut.len() == 1);
