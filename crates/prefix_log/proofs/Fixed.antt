@@ -15,7 +15,6 @@ use Rattle.prefix_log.specs.Chunks.{AreFirst, Halves, HasRows, HaveRows, IsCopy,
 use Rattle.prefix_log.specs.Logs.{IsKept, log_of, piece_at}
 use Rattle.prefix_log.specs.RowLists.{row_cells}
 use Rattle.prefix_log.specs.Snapshots.{HoldsPieces, firsts_of, seconds_of, pieces_in}
-use Rattle.prefix_log.proofs.Kept.{prefix_within}
 use Rattle.prefix_log.proofs.Ranges.{rows_same}
 use Rattle.prefix_log.proofs.Stored.{half_part, stored_at, stored_first, stored_length, stored_marks, stored_second}
 
@@ -113,25 +112,3 @@ module _ (k : ℕ) (w : Widths) (capacity rows : ℕ) (filled : List Bool) (chun
       first = λ column le. first_cells column le ∙ ap (λ (l : List Piece). firsts_of w l column) (sym first_pieces);
       second = λ column le. second_cells column le ∙ ap (λ (l : List Piece). seconds_of w l column) (sym first_pieces);
     }
-
--- ---- a log and its store
-
-module _ (space prefix server : ℕ) (w : Widths) (capacity : ℕ) (journal : List ℕ) (filled : List Bool) (store : Store)
-    (kept : IsKept space prefix (log_of server w capacity journal filled store.chunks)) (stored : IsStored w capacity prefix filled store) where
-  pub marks_at : (place : ℕ) → is_some (piece_at (stored_slots server w capacity filled store.chunks) place) ≡ get_or filled place false
-  marks_at = stored_marks server w capacity filled store.chunks stored.marks
-
-  pub all_marked : (place : ℕ) → place < prefix → get_or filled place false ≡ true
-  all_marked place lt = sym (marks_at place) ∙ kept.below place lt
-
-  pub prefix_fits : prefix ≤ capacity
-  prefix_fits = omega (arith, prefix_within space prefix (log_of server w capacity journal filled store.chunks) kept, stored_length server w capacity filled store.chunks)
-
-  pub store_rows : HaveRows w prefix store.chunks
-  store_rows = record { count = (let n = stored.places.count in omega (arith, prefix_fits)); each = λ row lt. stored.rows row (all_marked row lt) }
-
-  pub fixed_holds : (new : List (List Halves)) → AreFirst w prefix store.chunks new → (h : Held) → h ≡ first_rows w prefix 0 new
-      → HoldsPieces w (pieces_in (take h.rows (stored_slots server w capacity filled store.chunks))) h
-  fixed_holds new are h is =
-      subst (λ (g : Held). HoldsPieces w (pieces_in (take g.rows (stored_slots server w capacity filled store.chunks))) g) (sym is)
-      (first_holds server w capacity prefix filled store.chunks prefix_fits all_marked new are)
