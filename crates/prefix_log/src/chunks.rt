@@ -74,7 +74,8 @@ impl Chunks {
     {
         let sealed = count.min(self.sealed.len());
         drop_first(&mut self.sealed, sealed);
-        self.unsealed.truncate(self.unsealed.len() - (count - sealed));
+        self.unsealed
+            .truncate(self.unsealed.len() - (count - sealed));
     }
 
     // Seals chunks until `count` are. No cell is copied. Out of memory some of them may be sealed.

@@ -173,14 +173,7 @@ impl ServerLog {
         let rows = self.prefix - self.start;
         self.chunks.seal(alloc, rows / 64)?;
         let chunks = self.chunks.first(alloc, &self.widths, rows)?;
-        Ok(Snapshot::new(
-            alloc,
-            self.widths,
-            rows,
-            0,
-            self.start,
-            chunks,
-        ))
+        Ok(Snapshot::new(alloc, self.widths, rows, 0, self.start, chunks))
     }
 }
 
