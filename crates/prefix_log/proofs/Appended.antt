@@ -1,5 +1,5 @@
 -- Logs whose first places took rows in bulk.
-use Rattle.std.proofs.Common.{Option, Result, Ok, Err, OnErr, OnOk, ◌≡◌, ◌≢◌, ◌∙◌, refl, sym, ap, subst, ℕ, zero, suc, ◌+◌, ◌-◌, ◌/◌, ◌%◌, ◌<◌, ◌≤◌, ⊎_elim, Bool, true, false, cond, ltb, List, [], ◌∷◌, ◌++◌, drop, length, get_or, replicate, arith}
+use Rattle.std.proofs.Common.{Option, Result, Ok, Err, OnErr, OnOk, ◌≡◌, ◌≢◌, ◌∙◌, sym, ap, subst, ℕ, zero, suc, ◌+◌, ◌-◌, ◌/◌, ◌%◌, ◌<◌, ◌≤◌, ⊎_elim, Bool, true, false, cond, ltb, List, [], ◌∷◌, ◌++◌, drop, length, get_or, replicate, arith}
 use Rattle.std.specs.Result.{is_ok}
 use Rattle.std.specs.Prelude.{pos, Some, None, is_some, nat_lt}
 use Rattle.std.specs.List.{range_with_len}

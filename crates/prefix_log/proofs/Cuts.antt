@@ -124,18 +124,18 @@ module _ (w : Widths) (low high rows : ℕ) (chunks : List (List Halves)) (withi
         (subst (λ (n : ℕ). HasRows w (n + 1) (chunk_at chunks ((low + row) / 64))) rest (have.each (low + row) (omega arith)));
   }
 
-pub cut_is_at : (w w' : Widths) (from to n rows start start' place : ℕ) (chunks chunks' : List (List Halves)) → to ≤ place + rows → place ≤ from → from % 64 ≡ 0 → (0 < rows → place % 64 ≡ 0) → w' ≡ w → n ≡ to - from → start' ≡ start
+pub cut_is_at : (w w' : Widths) (from to n rows start start' place : ℕ) (chunks chunks' : List (List Halves)) → to ≤ place + rows → place ≤ from → (from < to → from % 64 ≡ 0) → (0 < rows → place % 64 ≡ 0) → w' ≡ w → n ≡ to - from → start' ≡ start
     → chunks' ≡ drop ((from - place) / 64) chunks → IsCut (from - place) (to - place) (first_rows w rows start chunks) (first_rows w' n start' chunks')
 cut_is_at w w' from to n rows start start' place chunks chunks' within above even whole a b c d =
     let count : to - from ≡ (to - place) - (from - place) = omega arith in
-    let aligned = λ (some : from - place < to - place). let p = whole (omega arith) in let e : (from - place) % 64 ≡ 0 = omega arith in e in
+    let aligned = λ (some : from - place < to - place). let p = whole (omega arith) in let q = even (omega arith) in let e : (from - place) % 64 ≡ 0 = omega arith in e in
     rw (a, b ∙ count, c, d) (cut_is w (from - place) (to - place) rows chunks (omega arith) aligned start)
 
-pub cut_rows_at : (w w' : Widths) (from to n rows place : ℕ) (chunks chunks' : List (List Halves)) → to ≤ place + rows → place ≤ from → from % 64 ≡ 0 → (0 < rows → place % 64 ≡ 0) → w' ≡ w → n ≡ to - from
+pub cut_rows_at : (w w' : Widths) (from to n rows place : ℕ) (chunks chunks' : List (List Halves)) → to ≤ place + rows → place ≤ from → (from < to → from % 64 ≡ 0) → (0 < rows → place % 64 ≡ 0) → w' ≡ w → n ≡ to - from
     → chunks' ≡ drop ((from - place) / 64) chunks → HaveRows w rows chunks → HaveRows w' n chunks'
 cut_rows_at w w' from to n rows place chunks chunks' within above even whole a b d have =
     let count : to - from ≡ (to - place) - (from - place) = omega arith in
-    let aligned = λ (some : from - place < to - place). let p = whole (omega arith) in let e : (from - place) % 64 ≡ 0 = omega arith in e in
+    let aligned = λ (some : from - place < to - place). let p = whole (omega arith) in let q = even (omega arith) in let e : (from - place) % 64 ≡ 0 = omega arith in e in
     rw (a, b ∙ count, d) (cut_rows w (from - place) (to - place) rows chunks (omega arith) aligned have)
 
 -- ---- one of the chunks

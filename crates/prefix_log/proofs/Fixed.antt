@@ -1,6 +1,6 @@
 -- Snapshots of a log.
 use Rattle.std.proofs.Common.{◌≡◌, ◌∙◌, refl, sym, ap, subst, ℕ, zero, suc, ◌+◌, ◌-◌, ◌*◌, ◌/◌, ◌%◌, ◌<◌, ◌≤◌, ⊎_elim, Bool, true, false, cond, List, ◌∷◌, ◌++◌, length, map, get_or, take, arith}
-use Rattle.std.specs.Prelude.{Some, None, is_some}
+use Rattle.std.specs.Prelude.{Some, None}
 use Rattle.std.specs.List.{flat_map, range_with_len}
 use Rattle.std.proofs.lemmas.Bool.{cases_lt}
 use Rattle.std.proofs.lemmas.List.{length-take, get_or-take}
@@ -10,13 +10,11 @@ use Rattle.list_facts.proofs.Listed.{length-listed, listed_is, listed_same}
 use Rattle.table_schema.specs.declared.widths.Widths.{Widths}
 use Rattle.onehot_column.specs.Code.{width_of, cells_at}
 use Rattle.onehot_column.specs.declared.piece.Piece.{Piece}
-use Rattle.scan_chunks.specs.Shelf.{Held}
-use Rattle.prefix_log.specs.Chunks.{AreFirst, Halves, HasRows, HaveRows, IsCopy, IsStored, Store, chunk_at, first_rows, halves_at, part_at, rows_at, stored_piece, stored_slots}
-use Rattle.prefix_log.specs.Logs.{IsKept, log_of, piece_at}
+use Rattle.prefix_log.specs.Chunks.{AreFirst, Halves, HasRows, HaveRows, IsCopy, chunk_at, first_rows, halves_at, part_at, rows_at, stored_piece, stored_slots}
 use Rattle.prefix_log.specs.RowLists.{row_cells}
 use Rattle.prefix_log.specs.Snapshots.{HoldsPieces, firsts_of, seconds_of, pieces_in}
 use Rattle.prefix_log.proofs.Ranges.{rows_same}
-use Rattle.prefix_log.proofs.Stored.{half_part, stored_at, stored_first, stored_length, stored_marks, stored_second}
+use Rattle.prefix_log.proofs.Stored.{half_part, stored_at, stored_first, stored_length, stored_second}
 
 -- ---- the rows of the first chunks and a copy
 

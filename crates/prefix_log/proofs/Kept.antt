@@ -1,18 +1,12 @@
 -- Slots, and what holds of one place and of all others.
-use Rattle.std.proofs.Common.{◌≡◌, ◌≢◌, ◌∙◌, refl, sym, ap, subst, ℕ, zero, suc, ◌+◌, ◌<◌, ◌≤◌, ◌⊎◌, ⊎_elim, Bool, true, false, cond, List, [], ◌∷◌, ◌++◌, length, get_or, set, arith}
+use Rattle.std.proofs.Common.{◌≡◌, ◌≢◌, refl, ap, ℕ, zero, suc, ◌<◌, ◌≤◌, ◌⊎◌, ⊎_elim, true, false, List, [], ◌∷◌, length, get_or, set, arith}
 use Rattle.std.specs.Prelude.{Option, Some, None, is_some}
 use Rattle.std.proofs.lemmas.Bool.{cases_order}
-use Rattle.std.proofs.lemmas.Bool.Decides.{nat_tests}
-use Rattle.std.proofs.lemmas.List.{get_or-set_same, get_or-set_other, get_or_past, length-append, length-set}
-use Rattle.list_facts.specs.Count.{times, once_below}
+use Rattle.std.proofs.lemmas.List.{get_or-set_same, get_or-set_other, get_or_past}
 use Rattle.list_facts.specs.Listed.{listed}
-use Rattle.list_facts.proofs.Count.{has_from, has_from_none, length_once, times-append}
 use Rattle.list_facts.proofs.Listed.{get_or-listed, length-listed}
-use Rattle.table_schema.specs.Widths.{Fits, column_bits}
-use Rattle.table_schema.specs.declared.widths.Widths.{Widths}
 use Rattle.onehot_column.specs.declared.piece.Piece.{Piece}
-use Rattle.prefix_log.specs.Journal.{IsPrefixOf}
-use Rattle.prefix_log.specs.Logs.{Log, IsKept, IsOwn, empty_log, piece_at}
+use Rattle.prefix_log.specs.Logs.{piece_at}
 
 pub any_default : {A : Type 0} (xs : List A) (i : ℕ) (d e : A) → i < length xs → get_or xs i d ≡ get_or xs i e
 any_default [] i d e h = absurd (omega arith)

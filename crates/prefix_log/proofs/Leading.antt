@@ -1,7 +1,7 @@
 -- Slots of which the first have no piece.
-use Rattle.std.proofs.Common.{◌≡◌, ◌∙◌, sym, ap, ℕ, ◌+◌, ◌-◌, ◌<◌, ◌≤◌, List, ◌++◌, length, get_or, set, drop, replicate, arith}
+use Rattle.std.proofs.Common.{◌≡◌, ◌∙◌, ap, ℕ, ◌+◌, ◌-◌, ◌<◌, ◌≤◌, List, ◌++◌, length, set, drop, replicate, arith}
 use Rattle.std.specs.Prelude.{Option, None}
-use Rattle.std.proofs.lemmas.List.{drop_at, drop-drop, get_or_append_left, get_or-append_right, get_or-drop, get_or-replicate, length-append, length-replicate, set-append_right}
+use Rattle.std.proofs.lemmas.List.{get_or_append_left, get_or-append_right, get_or-drop, get_or-replicate, length-append, length-replicate, set-append_right}
 use Rattle.onehot_column.specs.declared.piece.Piece.{Piece}
 use Rattle.prefix_log.specs.Logs.{piece_at, slots_from}
 use Rattle.prefix_log.proofs.Ranges.{drop_past}

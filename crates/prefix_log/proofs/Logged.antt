@@ -1,8 +1,8 @@
 -- Logs whose pieces are stored in chunks.
-use Rattle.std.proofs.Common.{◌≡◌, ◌≢◌, ◌∙◌, refl, sym, ap, subst, ℕ, ◌+◌, ◌-◌, ◌*◌, ◌/◌, ◌%◌, ◌<◌, ◌≤◌, ⊎_elim, min, Bool, true, false, cond, ltb, List, [], ◌∷◌, ◌++◌, drop, length, get_or, set, replicate, take, arith}
+use Rattle.std.proofs.Common.{◌≡◌, ◌∙◌, refl, sym, ap, subst, ℕ, ◌+◌, ◌-◌, ◌*◌, ◌/◌, ◌%◌, ◌<◌, ◌≤◌, ⊎_elim, min, Bool, true, false, cond, ltb, List, [], ◌∷◌, ◌++◌, drop, length, get_or, set, replicate, take, arith}
 use Rattle.std.specs.Prelude.{Option, Some, None, is_some}
 use Rattle.std.proofs.lemmas.Bool.{cases_lt, le-ltb, lt-ltb}
-use Rattle.std.proofs.lemmas.List.{drop_at, drop-drop, drop-set-add, get_or-drop, get_or_past, get_or-set_other, get_or-set_same, length-append, length-drop, length-replicate, length-set}
+use Rattle.std.proofs.lemmas.List.{drop_at, drop-drop, drop-set-add, get_or-drop, get_or-set_other, get_or-set_same, length-append, length-drop, length-replicate, length-set}
 use Rattle.list_facts.specs.Count.{has}
 use Rattle.table_schema.specs.Widths.{Fits, column_bits}
 use Rattle.table_schema.specs.declared.widths.Widths.{Widths}
@@ -10,15 +10,15 @@ use Rattle.onehot_column.specs.declared.piece.Piece.{Piece}
 use Rattle.scan_chunks.specs.Shelf.{Held}
 use Rattle.prefix_log.specs.Chunks.{AreFirst, Halves, HaveRows, IsStored, PlaceWritten, Store, first_rows, stored_piece, stored_slots}
 use Rattle.prefix_log.specs.Journal.{IsJournal, IsPrefixOf, is_kept, mark_of, prefix, start, start_for}
-use Rattle.prefix_log.specs.Logs.{IsKept, IsLog, IsOwn, Log, empty_log, log_of, piece_at, placed, retired, slots_from}
+use Rattle.prefix_log.specs.Logs.{IsKept, IsLog, IsOwn, empty_log, log_of, piece_at, placed, retired, slots_from}
 use Rattle.prefix_log.specs.Snapshots.{HoldsPieces, pieces_in}
 use Rattle.prefix_log.proofs.Fixed.{first_holds}
 use Rattle.prefix_log.proofs.Kept.{by_place, filled_below, same_some}
 use Rattle.prefix_log.proofs.Leading.{lead_after, lead_before, lead_drop, lead_length, lead_set}
-use Rattle.prefix_log.proofs.Marked.{few_entries, has_kept, has_other, has_self, journal_marked, journal_placed, place_below, prefix_below, start_for_whole, start_for_within, start_marked, start_placed, start_whole, start_within}
+use Rattle.prefix_log.proofs.Marked.{few_entries, has_kept, has_other, has_self, journal_marked, journal_placed, place_below, prefix_below, start_marked, start_placed, start_whole, start_within}
 use Rattle.prefix_log.proofs.Prefixes.{prefix_is}
 use Rattle.prefix_log.proofs.Stored.{slots_dropped, slots_written, stored_at, stored_length, stored_marks, stored_none, stored_server, stored_widths}
-use Rattle.prefix_log.proofs.Written.{new_stored, none_marked, stored_dropped, written_stored}
+use Rattle.prefix_log.proofs.Written.{none_marked, stored_dropped, written_stored}
 
 -- ---- a log by its journal and its marks
 

@@ -1,12 +1,11 @@
 -- Legal journals: their starts, their prefixes and how long they are.
-use Rattle.std.proofs.Common.{◌≡◌, ◌≢◌, ◌∙◌, refl, sym, ap, subst, ℕ, zero, suc, ◌+◌, ◌-◌, ◌*◌, ◌/◌, ◌%◌, ◌<◌, ◌≤◌, ◌⊎◌, inl, inr, ⊎_elim, min, Bool, true, false, cond, ltb, List, [], ◌∷◌, ◌++◌, length, append_assoc, append-nil, arith}
-use Rattle.std.specs.Prelude.{nat_le, nat_lt}
-use Rattle.std.proofs.lemmas.Bool.{cases_lt, cases_Bool, le-leb, lt-leb}
+use Rattle.std.proofs.Common.{◌≡◌, ◌≢◌, ◌∙◌, refl, sym, ap, subst, ℕ, ◌+◌, ◌-◌, ◌/◌, ◌%◌, ◌<◌, ◌≤◌, ◌⊎◌, inl, inr, ⊎_elim, Bool, true, false, cond, ltb, List, [], ◌∷◌, ◌++◌, length, append_assoc, append-nil, arith}
+use Rattle.std.proofs.lemmas.Bool.{cases_lt, le-leb, lt-leb}
 use Rattle.std.proofs.lemmas.Bool.Decides.{nat_tests}
 use Rattle.std.proofs.lemmas.List.{length-append}
 use Rattle.list_facts.specs.Count.{has, times, once_below}
-use Rattle.list_facts.proofs.Count.{has_from, has_from_none, has_no, has_yes, length_once, times-append}
-use Rattle.prefix_log.specs.Journal.{GoesOn, HasNoMark, IsJournal, IsNewMark, IsNewPlace, IsPrefixOf, mark_of, prefix, start, start_after, start_for, start_from}
+use Rattle.list_facts.proofs.Count.{has_from, has_no, has_yes, length_once, times-append}
+use Rattle.prefix_log.specs.Journal.{GoesOn, IsJournal, IsNewMark, IsNewPlace, IsPrefixOf, mark_of, prefix, start, start_after, start_for, start_from}
 use Rattle.prefix_log.specs.Laws.{NoMarkNoStart, StartIsWithin}
 use Rattle.prefix_log.proofs.Prefixes.{prefix_grows, prefix_is_largest}
 

@@ -1,5 +1,5 @@
 -- The places of the rows of parts.
-use Rattle.std.proofs.Common.{◌≡◌, ◌∙◌, refl, sym, ap, subst, ℕ, ◌+◌, List, [], ◌∷◌, ◌++◌, map, arith}
+use Rattle.std.proofs.Common.{◌≡◌, ◌∙◌, sym, ap, subst, ℕ, ◌+◌, List, [], ◌∷◌, ◌++◌, map, arith}
 use Rattle.list_facts.specs.Count.{total}
 use Rattle.scan_chunks.specs.Shelf.{Held}
 use Rattle.prefix_log.specs.Starts.{Follow, start_of}

@@ -1,5 +1,5 @@
 -- What contracts see of a server's log.
-use Rattle.std.specs.Prelude.{◌≡◌, ℕ, ◌+◌, ◌-◌, ◌/◌, ◌<◌, ◌≤◌, Bool, true, false, if◌then◌else◌, Option, Some}
+use Rattle.std.specs.Prelude.{◌≡◌, ℕ, ◌+◌, ◌-◌, ◌/◌, ◌<◌, ◌≤◌, Bool, false, if◌then◌else◌, Option, Some}
 use Rattle.std.specs.Prelude.{None, is_some, List, [], ◌∷◌, ◌++◌, drop, length, nat_lt, replicate, slice_index_or, slice_set}
 use Rattle.list_facts.specs.Count.{has}
 use Rattle.list_facts.specs.Listed.{listed}

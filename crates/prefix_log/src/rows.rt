@@ -48,7 +48,7 @@ impl Rows {
 
     // Keeps the rows at the places from one to below another, and lets go of the chunks before them. It takes no memory.
     pub fn cut(&mut self, from: u64, to: u64)
-        requires whole { from % 64 ≡ 0 }
+        requires whole { from < to → from % 64 ≡ 0 }
         requires from { self.old.place ≤ from }
         requires to { to ≤ self.old.place + self.old.count }
         ensures count { self.new.count ≡ to - from }

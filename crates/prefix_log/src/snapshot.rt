@@ -55,16 +55,18 @@ impl Snapshot {
 
     /// The place of the first row, also where there are no rows.
     pub fn start(&self) -> u64
-        ensures { result ≡ start_of self.now }
+        ensures value { result ≡ start_of self.now }
+        ensures whole { 0 < (⟦<Snapshot as Shelf>⟧.held self.now).rows → result % 64 ≡ 0 }
+        ensures reach { result + (⟦<Snapshot as Shelf>⟧.held self.now).rows < 2 ^ 64 }
     {
         self.rows.place
     }
 
     /// Keeps the rows at the places from `from` to `to - 1`, and none where `from` is not below `to`; the start is then
-    /// `from`. The number of the first chunk and the visits stay: chunks are numbered from the first row that is kept. It
-    /// takes no memory.
+    /// `from`. Rows are kept from a multiple of 64 on. The number of the first chunk and the visits stay: chunks are numbered
+    /// from the first row that is kept. It takes no memory.
     pub fn cut(&mut self, from: u64, to: u64)
-        requires whole { from % 64 ≡ 0 }
+        requires whole { from < to → from % 64 ≡ 0 }
         requires from { start_of self.old ≤ from }
         requires to { to ≤ start_of self.old + (⟦<Snapshot as Shelf>⟧.held self.old).rows }
         ensures cut { let first = start_of self.old in

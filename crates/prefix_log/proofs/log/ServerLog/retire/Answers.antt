@@ -1,4 +1,4 @@
-use Rattle.std.proofs.Common.{◌≡◌, ◌∙◌, ◌+◌, ◌-◌, ◌*◌, ◌/◌, ◌≤◌, sym, ap, subst, ℕ, List, length, min, arith}
+use Rattle.std.proofs.Common.{◌≡◌, ◌∙◌, ◌*◌, ◌/◌, ◌≤◌, sym, ap, subst, ℕ, List, min, arith}
 use Rattle.std.specs.Prelude.{vec_capacity}
 use Rattle.prefix_log.specs.Journal.{start as start_in}
 use Rattle.prefix_log.specs.Logs.{Log, log_of, retired}

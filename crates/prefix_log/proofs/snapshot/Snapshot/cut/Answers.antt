@@ -1,4 +1,4 @@
-use Rattle.std.proofs.Common.{ap, map}
+use Rattle.std.proofs.Common.{map}
 use Rattle.std.specs.Arc.{arc_value}
 use Rattle.prefix_log.proofs.Cuts.{cut_is_at}
 use Rattle.prefix_log.proofs.snapshot.Snapshot.cut.Goals as goal
