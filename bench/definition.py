@@ -13,6 +13,7 @@ import race_text
 
 MOST_BYTES = 16_777_216
 MOST_CELLS = 4_194_304
+MOST_VALUE = 4_294_967_295
 
 Column = collections.namedtuple("Column", "name bits start step")
 Query = collections.namedtuple("Query", "aggregate predicates")
@@ -58,7 +59,7 @@ def read_column(piece):
 
 def read_schema(text):
     columns = [read_column(piece) for piece in text.split(b",")]
-    if len(columns) > 4 or None in columns or len({column.name for column in columns}) < len(columns):
+    if len(columns) > 6 or None in columns or len({column.name for column in columns}) < len(columns):
         return None
     return columns
 
@@ -136,7 +137,7 @@ def read_capacity(text, columns):
 OPTIONS = {
     b"--query": (read_query, 16),
     b"--schedule": (lambda text, _: read_schedule(text), 1),
-    b"--number": (within(0, 4294967295), 1),
+    b"--number": (within(0, (1 << 32) - 1), 1),
     b"--rows": (read_capacity, 1),
     b"--writers": (within(1, 16), 1),
     b"--askers": (within(1, 16), 1),
@@ -254,16 +255,17 @@ def read_row(fields, columns):
     for place, field in enumerate(fields):
         if not is_text(field):
             return "Text"
-        found = number(field)
+        below = place == len(columns) and field.startswith(b"-")
+        found = number(field[1:] if below else field)
         if found is None:
             return "Number"
         if place < len(columns):
             found = bucket(columns[place], found)
             if found is None:
                 return "Domain"
-        elif found > 4294967295:
+        elif found > MOST_VALUE:
             return "Value"
-        row.append(found)
+        row.append(-found if below else found)
     return row
 
 

@@ -8,6 +8,7 @@ import trials
 
 READ_FAULT = b"waldo: read fault\n"
 INPUT = b"host,value\n3,10\n1,20\n3,5\n"
+BELOW = b"host,value\n3,-10\n1,20\n3,-4294967295\n0,-0\n"
 
 
 def rows(count):
@@ -33,6 +34,9 @@ RUNS = [
     ("ask", command("ask", *QUERY), INPUT),
     ("ask by 4 workers", command("ask", "--query", "sum host=0..2", *QUERY, "--workers", "4"), rows(70)),
     (LONG, command("ask", "--query", "sum host<=2"), rows(3000)),
+    ("ask of values below zero", command("ask", "--query", "sum host=3", "--query", "sum host<=3"), BELOW),
+    ("ask over six columns", [b"ask", b"a:1,b:2,c:1,d:1,e:1,f:1", b"--query", b"sum f=1 a=0 b<=2 e=0..1"],
+     b"a,b,c,d,e,f,value\n0,1,0,0,0,1,-5\n1,3,0,0,0,1,7\n0,3,1,1,1,1,9\n"),
     ("replay", command("replay", *QUERY, "--schedule", STEPS), INPUT),
     ("make", command("make", "--number", "7", "--rows", "130", "--query", "sum host=3"), b""),
     ("make by 4 workers", command("make", "--number", "7", "--rows", "130", "--query", "sum host=3", "--workers", "4"), b""),
@@ -202,10 +206,10 @@ def cut_inputs(program):
              ("replay", command("replay", *QUERY, "--schedule", "d0 p0.0 p0.1 p0.2 f0 f0 f0 a0.0")), ("race", command("race", *QUERY))]
     for name, words in kinds:
         count = 0
-        for data in (INPUT, ODD):
+        for data in (INPUT, ODD, BELOW):
             cut = [data[:length] for length in range(len(data) + 1)]
-            changed = [data[:at] + bytes([byte]) + data[at + 1:] for at in range(len(data)) for byte in b'",\n\r 4\xff\x00\xc3']
-            joined = [data[:at] + bytes([byte]) + data[at:] for at in range(len(data)) for byte in b'",\n'] if name == "ask" else []
+            changed = [data[:at] + bytes([byte]) + data[at + 1:] for at in range(len(data)) for byte in b'",\n\r 4-\xff\x00\xc3']
+            joined = [data[:at] + bytes([byte]) + data[at:] for at in range(len(data)) for byte in b'",\n-'] if name == "ask" else []
             for part in cut + changed + joined:
                 status, text, _ = program.start(words, data=part)
                 program.check(f"{name} over {part!r}", definition.expected(words, part).fault(status, text))

@@ -6,15 +6,15 @@ LINES = [
     ("place", re.compile(r"place (\d+) row (\d+)")),
     ("back", re.compile(r"back (\d+) rows (\d+)")),
     ("again", re.compile(r"back (\d+) again server ([012]) had (\d+) floor (\d+)")),
-    ("ask", re.compile(r"ask (\d+)\.(\d+) rows (\d+) (count|sum) (\d+)")),
-    ("end", re.compile(r"end (\d+) rows (\d+) (count|sum) (\d+)")),
+    ("ask", re.compile(r"ask (\d+)\.(\d+) rows (\d+) (count|sum) (0|-?[1-9]\d*)")),
+    ("end", re.compile(r"end (\d+) rows (\d+) (count|sum) (0|-?[1-9]\d*)")),
 ]
 
 
 def read_line(line):
     for kind, form in LINES:
         if found := form.fullmatch(line):
-            return kind, [int(part) if part.isdigit() else part for part in found.groups()]
+            return kind, [part if part in ("count", "sum") else int(part) for part in found.groups()]
     return "other", [line]
 
 

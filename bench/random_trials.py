@@ -30,7 +30,7 @@ class Chance(random.Random):
 
 
 def columns_of(chance):
-    names = chance.sample([b"a", b"host", b"b_2", b"level", b"z" * 16, b"values"], chance.choice([1, 1, 1, 2, 2, 3, 4]))
+    names = chance.sample([b"a", b"host", b"b_2", b"level", b"z" * 16, b"values"], chance.choice([1, 1, 1, 2, 2, 3, 4, 5, 6]))
     made = []
     for name in names:
         start = chance.choice([0, 0, 0, chance.randrange(100), chance.randrange(1 << 40), (1 << 64) - chance.randint(1, 400)])
@@ -63,7 +63,8 @@ def raw_number(chance, column, odd=60):
 
 def query_text(chance, columns):
     pieces = [chance.choice([b"count", b"sum"])]
-    for column in chance.sample(columns, chance.randint(1, len(columns))):
+    most = 6 if chance.one_in(40) else 4  # more than four predicates are refused
+    for column in chance.sample(columns, chance.randint(1, min(most, len(columns)))):
         low, high = sorted([raw_number(chance, column), raw_number(chance, column)])
         if chance.one_in(40):
             low, high = high, low
@@ -89,9 +90,10 @@ def input_text(chance, columns, count):
     data = b"\xef\xbb\xbf" if chance.one_in(25) else b""
     rows = [[column.name for column in columns] + [b"value"]]
     for _ in range(count):
-        value = chance.choice([int(chance.random() * 1000), int(chance.random() * (1 << 32)), (1 << 32) - 1])
+        value = chance.choice([0, int(chance.random() * 1000), int(chance.random() * (1 << 32)), (1 << 32) - 1])
         value = 1 << 32 if chance.one_in(20 * (count + 5)) else value
-        rows.append([chance.digits(raw_number(chance, column, 20 * (count + 5))) for column in columns] + [chance.digits(value)])
+        sign = b"-" if chance.one_in(3) else b""
+        rows.append([chance.digits(raw_number(chance, column, 20 * (count + 5))) for column in columns] + [sign + chance.digits(value)])
     spoils = chance.one_in(8)
     for row in rows:
         data += b",".join(field_text(chance, text) if spoils or chance.one_in(10) else text for text in row) + chance.choice(ENDS)

@@ -458,6 +458,19 @@ check_schema() {
     "$(cd "$tree" && READ=yes TEXT= bash -c "$(sed -n '/^  awk/,$p' <<<"$out")" | paste -sd ' ' -)"
   call schema "$file" nothing
   is "a column that isn't there" 2 "$status"
+  printf 'day,value\n0,-45\n1,30\n' >"$file"
+  call schema "$file"
+  has "values below zero" "-45 to 30" "$out"
+  has "which need no change" "ask day:1 --query \"count day=0\" < " "$out"
+  printf 'a,b,c,d,e,f,g,Degrees\n0,1,0,1,0,1,0,-4.5\n1,1,0,1,0,1,0,-0.25\n' >"$file"
+  call schema "$file"
+  has "six columns and decimals below zero" "a:1,b:1,c:1,d:1,e:1,f:1 --query" "$out"
+  has "the seventh is left out" "g is left out: a schema has at most six columns" "$out"
+  is "its command makes whole numbers" "a,b,c,d,e,f,value 0,1,0,1,0,1,-450 1,1,0,1,0,1,-25" \
+    "$(cd "$tree" && READ=yes TEXT= bash -c "$(sed -n '/^  awk/,$p' <<<"$out")" | paste -sd ' ' -)"
+  printf 'day,value\n0,-4294967296\n' >"$file"
+  call schema "$file" day value
+  is "a value that is too far below zero" "2 1" "$status $(grep -c 'from -4294967295 to 4294967295' <<<"$err")"
   call schema /nonexistent
   is "a file that isn't there" 3 "$status"
 }
@@ -493,16 +506,17 @@ bucket 3 |###################################### 15
   is "nothing is left beside it" "-a 'b.svg" "$(ls -A "$folder")"
   is "others may read it as the umask says" 640 "$(cd "$folder" && umask 027 && "$tree/waldo" plot "$here" --svg=-x.svg >/dev/null </dev/null && stat -c %a ./-x.svg)"
   check_plot_totals
+  check_plot_negative
   check_plot_lines
   check_plot_words
   check_plot_writes
 }
 
 check_plot_totals() {
-  local most=18446744073709551615
+  local most=9223372036854775807
   out=$(printf 'group 0 bucket 0 rows 65536 sum %s\ngroup 0 bucket 1 rows 65536 sum 1\n' $most | "$tree/waldo" plot)
   has "the greatest total, digit by digit" " $most" "$out"
-  has "its scale" "10000000000000000000     20000000000000000000" "$out"
+  has "its scale" "5000000000000000000     10000000000000000000" "$out"
   has "a total that is too small for its bar" "bucket 1 |. 1" "$out"
   is "no rows" "2 1" "$(printf 'group 0 bucket %s rows 0 count 0\n' 0 1 | "$tree/waldo" plot | grep -c '| 0$') $(
     printf 'group 0 bucket %s rows 1 count 0\n' 0 1 | "$tree/waldo" plot | grep -c 'over 1 row$')"
@@ -515,6 +529,33 @@ check_plot_totals() {
   has "the others are drawn" "bucket 1 |######################################## 4" "$out"
   is "its line" 1 "$(wc -l <"$room/err")"
   has "in the picture too" "bucket 0: refused" "$(cat "$room/refused.svg")"
+}
+
+# A negative total has its bar to the left of the axis at 0, or below it in the picture.
+check_plot_negative() {
+  local wanted='query 0: sum by bucket, over 4 rows
+bucket 0                          | 0
+bucket 1                          |######################### 20
+bucket 2       ###################| -15
+bucket 3                         #| -1
+         +------------------------+------------------------+
+        -20                       0                       20'
+  negative() { printf 'group 0 bucket %s rows 4 sum %s\n' "$@"; }
+  is "totals on both sides of 0" "$wanted" "$(negative 0 0 1 20 2 -15 3 -1 | "$tree/waldo" plot --svg "$room/both.svg")"
+  has "a bar above the axis" 'y="50.00" width="120.00" height="120.00" fill="#36c"><title>bucket 1: 20</title>' "$(cat "$room/both.svg")"
+  has "a bar below the axis" 'y="170.00" width="120.00" height="90.00" fill="#36c"><title>bucket 2: -15</title>' "$(cat "$room/both.svg")"
+  has "the axis at 0" "M190 170H830" "$(cat "$room/both.svg")"
+  has "a scale on both sides" ">-20</text>" "$(cat "$room/both.svg")"
+  wanted='query 0: sum by bucket, over 4 rows
+bucket 0 ##################################################| -5
+bucket 1                                                   | 0
+         +------------------------+------------------------+
+        -5                      -2.5                       0'
+  is "no total above 0" "$wanted" "$(negative 0 -5 1 0 | "$tree/waldo" plot --svg "$room/below.svg")"
+  has "in the picture" 'y="50.00" width="240.00" height="240.00" fill="#36c"><title>bucket 0: -5</title>' "$(cat "$room/below.svg")"
+  out=$(negative 0 -9223372036854775807 1 -1 | "$tree/waldo" plot)
+  has "the least total, digit by digit" "#| -9223372036854775807" "$out"
+  has "a negative total that is too small for its bar" " .| -1" "$out"
 }
 
 # A wrong text has status 5 and one line that names the place: `the text, as printf reads it|part of the line`.
@@ -538,11 +579,15 @@ group 1 bucket 0 rows 3 sum 1\n|line 1 begins query 1 where query 0
 group 0 bucket 0 rows 3 sum 1\ngroup 0 bucket 1 rows 4 sum 1\n|line 2 has 4 rows and a sum, and an earlier line of query 0 has 3 rows
 group 0 bucket 0 rows 3 sum 1\ngroup 0 bucket 1 rows 3 count 1\n|an earlier line of query 0 has 3 rows and a sum
 group 0 bucket 0 rows 3 count 4\n|line 1 counts 4 of 3 rows
-group 0 bucket 0 rows 3 sum 18446744073709551616\n|line 1 is no line
+group 0 bucket 0 rows 3 count -1\n|line 1 counts -1 of 3 rows
+group 0 bucket 0 rows 3 sum 9223372036854775808\n|line 1 is no line
+group 0 bucket 0 rows 3 sum -9223372036854775808\n|line 1 is no line
 group 0 bucket 0 rows 65537 sum 1\n|line 1 is no line
 group 0 bucket 0 rows 3 sum 01\n|line 1 is no line
 group 0 bucket 0 rows 3 sum 1e3\n|line 1 is no line
-group 0 bucket 0 rows 3 sum -1\n|line 1 is no line
+group 0 bucket 0 rows 3 sum -0\n|line 1 is no line
+group 0 bucket 0 rows 3 sum -01\n|line 1 is no line
+group 0 bucket 0 rows 3 sum --1\n|line 1 is no line
 group 0 bucket 0  rows 3 sum 1\n|line 1 is no line
 group 0 bucket 0 rows 3 sum 1 \n|line 1 is no line
 group 0 bucket 0 rows 3 sum 1\r\n|line 1 is no line

@@ -25,8 +25,8 @@ record_fault() {
   case $1 in
     Fields) printf 'a record has the %s fields %s' "$((${#column_names[@]} + 1))" "$(header)" ;;
     Text) printf 'one of its fields is no UTF-8 text' ;;
-    Number) printf 'one of its fields is no whole number from 0 to 2^64 - 1: no sign, no point, no space, not empty' ;;
-    Value) printf 'its value is above 4294967295' ;;
+    Number) printf 'one of its fields is no whole number: no point, no space, not empty, and a minus sign before the value alone' ;;
+    Value) printf 'its value is above 4294967295 or below -4294967295' ;;
     Domain)
       for column in "${!column_names[@]}"; do texts+=("${column_names[column]} takes $(numbers_of "$column")"); done
       printf 'one of its numbers has no bucket: %s' "$(listed "${texts[@]}")"

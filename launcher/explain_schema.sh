@@ -7,8 +7,8 @@ read_schema() {
   column_names=() column_bits=() column_starts=() column_steps=() fault=
   cut_at , "$1"
   pieces=("${cut[@]}")
-  if ((${#pieces[@]} > 4)); then
-    fault="a schema has at most 4 columns, and here are ${#pieces[@]}"
+  if ((${#pieces[@]} > 6)); then
+    fault="a schema has at most 6 columns, and here are ${#pieces[@]}"
     return
   fi
   for piece in "${pieces[@]}"; do

@@ -1,4 +1,5 @@
-# Draws the totals that plot_read.awk has read, as bars for a terminal: a bar of up to 50 characters a bucket, and the scale below.
+# Draws the totals that plot_read.awk has read, as bars for a terminal: a bar a bucket, which begins at the axis at 0 and goes to
+# the right, or to the left where the total is negative, and the scale below. The scale is 50 characters wide.
 BEGIN { wide = 50 }
 
 END {
@@ -9,34 +10,45 @@ END {
   }
 }
 
-function draw(query,    b, end, margin, line) {
-  end = scale_end(query)
+function draw(query,    b, margin, line) {
+  find_scale(query)
   margin = length("bucket " (buckets[query] - 1))
   print title(query)
   for (b = 0; b < buckets[query]; b++) {
-    line = padded("bucket " b, margin) " |"
-    if ((query, b) in refused) print line " refused: the check found it altered"
-    else print line bar(total[query, b] + 0, end) " " total[query, b]
+    line = padded("bucket " b, margin) " "
+    if ((query, b) in refused) print line axis(0) " refused: the check found it altered"
+    else print line axis(total[query, b] + 0) " " total[query, b]
   }
   line = repeated("-", wide / 2 - 1)
   print padded("", margin) " +" line "+" line "+"
-  print_scale(margin, end)
+  print_scale(margin + 1)
+}
+
+# The axis with a total's bar, behind what is left of it on the scale.
+function axis(number,    room, drawn) {
+  room = -low / (high - low) * wide
+  if (number >= 0) return repeated(" ", room) "|" bar(number)
+  drawn = bar(-number)
+  return repeated(" ", room - length(drawn)) drawn "|"
 }
 
 # At least a dot for what isn't 0.
-function bar(number, end,    long) {
-  long = int(number / end * wide + 0.5)
-  if (number > 0 && long == 0) return "."
+function bar(size,    long) {
+  long = int(size / (high - low) * wide + 0.5)
+  if (size > 0 && long == 0) return "."
   return repeated("#", long)
 }
 
-# 0, the half and the end; a scale to 1 has no half.
-function print_scale(margin, end,    half, line) {
-  line = padded("", margin) " 0"
-  half = end == 1 ? "" : end == 5 ? "2.5" : sprintf("%.0f", end / 2)
-  line = centred(line, half, margin + 1 + wide / 2)
-  line = centred(line, sprintf("%.0f", end), margin + 1 + wide)
-  print line
+# The ends and what is halfway.
+function print_scale(from) {
+  print centred(centred(centred("", number_text(low), from), number_text((low + high) / 2), from + wide / 2), number_text(high), from + wide)
+}
+
+# A scale of one side to 1 has no number halfway, one to 5 has 2.5.
+function number_text(number) {
+  if (number == 0.5 || number == -0.5) return ""
+  if (number == 2.5 || number == -2.5) return sprintf("%.1f", number)
+  return sprintf("%.0f", number)
 }
 
 function centred(line, text, at) {

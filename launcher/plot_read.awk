@@ -1,7 +1,7 @@
 # Reads what `groups` prints, and refuses what it can't have printed: the first fault is printed as a sentence, and the status is 5.
 # Else there are the queries from 0 on, with their buckets from 0 on: buckets[q], rows[q], sort[q] (count or sum), and for bucket b
-# total[q, b] as it was printed, or refused[q, b].
-BEGIN { queries = 0; greatest_total = "18446744073709551615"; greatest_word = "340282366920938463463374607431768211455" }
+# total[q, b] as it was printed, which may be negative, or refused[q, b].
+BEGIN { queries = 0; greatest_total = "9223372036854775807"; greatest_word = "340282366920938463463374607431768211455" }
 
 { read_line() }
 
@@ -32,7 +32,7 @@ function where_next() {
 function is_group() {
   if ($1 != "group" || $3 != "bucket" || !is_number($2, "15") || !is_number($4, "256")) return 0
   if ($5 == "rows")
-    return NF == 8 && is_number($6, "65536") && ($7 == "count" || $7 == "sum") && is_number($8, greatest_total) && is_spaced()
+    return NF == 8 && is_number($6, "65536") && ($7 == "count" || $7 == "sum") && is_total($8) && is_spaced()
   return NF == 9 && $5 == "altered" && $6 == "total" && is_number($7, greatest_word) &&
     $8 == "weighted" && is_number($9, greatest_word) && is_spaced()
 }
@@ -50,6 +50,11 @@ function is_number(text, greatest) {
   return ("x" text) <= ("x" greatest)
 }
 
+# A total is such a number, or one above 0 behind a minus sign.
+function is_total(text) {
+  return text ~ /^-[1-9]/ ? is_number(substr(text, 2), greatest_total) : is_number(text, greatest_total)
+}
+
 # All buckets of a query are over the same rows, and counted or summed alike.
 function note_total(query, bucket) {
   if (sort[query] == "") {
@@ -58,7 +63,7 @@ function note_total(query, bucket) {
   }
   if (sort[query] != $7 || rows[query] != $6)
     fail("line " NR " has " $6 " rows and a " $7 ", and an earlier line of query " query " has " rows[query] " rows and a " sort[query])
-  if ($7 == "count" && $8 + 0 > $6 + 0) fail("line " NR " counts " $8 " of " $6 " rows")
+  if ($7 == "count" && ($8 + 0 > $6 + 0 || $8 + 0 < 0)) fail("line " NR " counts " $8 " of " $6 " rows")
   total[query, bucket] = $8
 }
 
@@ -94,10 +99,22 @@ function shown(text) {
   return "'" (length(text) > 60 ? substr(text, 1, 56) ".." : text) "'"
 }
 
-# The end of the scale: 1, 2 or 5 times a power of ten that no total of the query is above. It is exact, being such a number.
-function scale_end(query,    b, greatest, power) {
+# The ends of a query's scale, low and high. An end that isn't 0 has a size of 1, 2 or 5 times a power of ten that no total's size is above,
+# and is exact, being such a number; it is there where some total is on that side of 0, and above 0 also where no total is on either.
+function find_scale(query,    b, number, greatest, negative, positive) {
   greatest = 0
-  for (b = 0; b < buckets[query]; b++) if (total[query, b] + 0 > greatest) greatest = total[query, b] + 0
+  for (b = 0; b < buckets[query]; b++) {
+    number = total[query, b] + 0
+    if (number < 0) negative = 1
+    if (number > 0) positive = 1
+    if (number < 0) number = -number
+    if (number > greatest) greatest = number
+  }
+  high = positive || !negative ? scale_end(greatest) : 0
+  low = negative ? -scale_end(greatest) : 0
+}
+
+function scale_end(greatest,    power) {
   power = 1
   while (1) {
     if (greatest <= power) return power

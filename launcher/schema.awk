@@ -1,8 +1,8 @@
 # Tells of each column of a CSV file what it holds. A line `file ROWS QUOTES UNEVEN RETURNS` for all, where UNEVEN is the number of rows
 # with another number of fields than the header and RETURNS that of lines with a carriage return, and then for each column a line with
-# tabs between the fields: its number, its name, its kind (number, decimal, negative, word), least and greatest number, what all
-# differences from the first number are multiples of, how many fields are empty, digits behind the point, the first field, how many
-# different words (up to 257), and those.
+# tabs between the fields: its number, its name, its kind (number or decimal; below or below_decimal where some have a minus sign; word),
+# least and greatest number, what all differences from the first number are multiples of, how many fields are empty, digits behind the
+# point, the first field, how many different words (up to 257), and those.
 BEGIN { OFS = "\t"; most = 257 }
 
 { returns += sub(/\r$/, "") }
@@ -45,7 +45,7 @@ function cut(line, number, text) {
   }
 }
 
-function note(i, text, number) {
+function note(i, text, number, count) {
   if (text == "") { empty[i]++; return }
   if (!(i in first)) first[i] = text
   if (!((i, text) in seen) && different[i] < most) {
@@ -53,17 +53,16 @@ function note(i, text, number) {
     different[i]++
     words[i] = words[i] (different[i] > 1 ? "\001" : "") clean(text)
   }
-  if (text ~ /^[0-9]+$/) number = text
-  else if (text ~ /^[0-9]*\.[0-9]+$/) {
+  number = text
+  if (sub(/^-/, "", number)) negatives[i]++
+  if (number ~ /^[0-9]*\.[0-9]+$/) {
     decimals[i]++
-    number = text
-    sub(/^.*\./, "", number)
-    if (length(number) > digits[i]) digits[i] = length(number)
-    number = text
-  } else if (text ~ /^-[0-9.]+$/) { negatives[i]++; return }
-  else { other[i]++; return }
+    count = length(number) - index(number, ".")
+    if (count > digits[i]) digits[i] = count
+  } else if (number !~ /^[0-9]+$/) { other[i]++; return }
   sub(/^0+/, "", number)
   if (number == "" || number ~ /^\./) number = "0" number
+  if (text ~ /^-/ && number ~ /[1-9]/) number = "-" number
   if (!(i in least) || below(number, least[i])) least[i] = number
   if (!(i in greatest) || below(greatest[i], number)) greatest[i] = number
   if (!(i in base)) base[i] = number
@@ -72,6 +71,8 @@ function note(i, text, number) {
 
 # Whole numbers of any length are compared as texts.
 function below(one, two) {
+  if (one ~ /^-/ && two ~ /^-/) return below(substr(two, 2), substr(one, 2))
+  if (one ~ /^-/ || two ~ /^-/) return one ~ /^-/
   if (one ~ /\./ || two ~ /\./) return one + 0 < two + 0
   if (length(one) != length(two)) return length(one) < length(two)
   return one "" < two ""
@@ -84,7 +85,7 @@ function divisor(a, b, rest) {
 
 function kind(i) {
   if (other[i]) return "word"
-  if (negatives[i]) return "negative"
+  if (negatives[i]) return decimals[i] ? "below_decimal" : "below"
   if (decimals[i]) return "decimal"
   return (i in least) ? "number" : "word"
 }

@@ -43,7 +43,7 @@ fact() {
 }
 
 # Which columns become columns of the schema, and which is the value: those that were named, the last being the value; or one named
-# value, else the last one with numbers; and the first four of the others that fit.
+# value, else the last one with numbers; and the first six of the others that fit.
 choose() {
   local wanted index found
   for wanted in "$@"; do
@@ -55,17 +55,17 @@ choose() {
   if (($#)); then
     value=${chosen[-1]}
     unset 'chosen[-1]'
-    (($# >= 2 && $# <= 5)) || refuse_file 2 "a schema has one to four columns, and the value comes behind them"
-    may_be_value "$value" || refuse_file 2 "column $(quoted "${titles[value]}") can't be the value: values are numbers from 0 to 4294967295"
+    (($# >= 2 && $# <= 7)) || refuse_file 2 "a schema has one to six columns, and the value comes behind them"
+    may_be_value "$value" || refuse_file 2 "column $(quoted "${titles[value]}") can't be the value: $values_are"
     return
   fi
   for index in "${!titles[@]}"; do may_be_value "$index" && value=$index; done
   for index in "${!titles[@]}"; do [[ ${titles[index]} == value ]] && may_be_value "$index" && value=$index; done
-  [ -n "$value" ] || refuse_file 5 "no column of the file can be the value: values are numbers from 0 to 4294967295"
+  [ -n "$value" ] || refuse_file 5 "no column of the file can be the value: $values_are"
   for index in "${!titles[@]}"; do
     [ "$index" = "$value" ] && continue
-    if ((${#chosen[@]} == 4)); then
-      notes+=("${titles[index]} is left out: a schema has at most four columns. $(
+    if ((${#chosen[@]} == 6)); then
+      notes+=("${titles[index]} is left out: a schema has at most six columns. $(
         )Name those that you want: $name schema FILE COLUMN .. VALUE")
     elif may_be_column "$index"; then
       chosen+=("$index")
@@ -76,10 +76,13 @@ choose() {
   ((${#chosen[@]})) || refuse_file 5 "no column of the file fits: a column holds numbers, or up to 256 different words"
 }
 
+values_are="values are numbers from -4294967295 to 4294967295"
+
 may_be_value() {
-  local digits
-  digits=$(fact "$1" 7)
-  [[ $(fact "$1" 2) == @(number|decimal) ]] && ((digits <= 6)) && ! exceeds "$(scaled "$(fact "$1" 4)" "$digits")" 4294967295
+  local digits least greatest
+  digits=$(fact "$1" 7) least=$(fact "$1" 3) greatest=$(fact "$1" 4)
+  [[ $(fact "$1" 2) == @(number|decimal|below|below_decimal) ]] && ((digits <= 6)) &&
+    ! exceeds "$(scaled "${least#-}" "$digits")" 4294967295 && ! exceeds "$(scaled "${greatest#-}" "$digits")" 4294967295
 }
 
 may_be_column() {
@@ -288,10 +291,22 @@ joined() {
   printf %s "$*"
 }
 
+# What a column is used as: numbers of which some are below zero are numbers as values, and words as columns.
+kind_of() {
+  local kind
+  kind=$(fact "$1" 2)
+  case $kind in
+    below*)
+      if [ "$1" != "$value" ]; then kind=word; elif [ $kind = below ]; then kind=number; else kind=decimal; fi
+      ;;
+  esac
+  printf %s "$kind"
+}
+
 is_as_it_is() {
   local index expected=1
   for index in "${chosen[@]}" "$value"; do
-    [[ $index -eq $expected && $(fact "$index" 2) == number && $(fact "$index" 6) -eq 0 ]] || return
+    [[ $index -eq $expected && $(kind_of "$index") == number && $(fact "$index" 6) -eq 0 ]] || return
     expected=$((expected + 1))
   done
   ((expected == ${#titles[@]} + 1)) && [ "$(joined "${titles[@]}")" = "$(header_of)" ]
@@ -320,7 +335,7 @@ conversion() {
   for index in "${chosen[@]}" "$value"; do
     digits=$(fact "$index" 7)
     (($(fact "$index" 6) == 0)) || guard+="${guard:+ && }\$$index != \"\""
-    case $(fact "$index" 2) in
+    case $(kind_of "$index") in
       number) fields+="${fields:+, }\$$index" ;;
       decimal) fields+="${fields:+, }sprintf(\"%.0f\", \$$index * 1$(printf '%0*d' "$digits" 0))" ;;
       *)

@@ -8,7 +8,8 @@ use Rattle.list_facts.proofs.Listed.{get_or-listed, length-listed}
 use Rattle.ring128.specs.Ring.{times}
 use Rattle.ring128.specs.declared.memory.Memory.{Memory}
 use Rattle.onehot_column.specs.Code.{width_of}
-use Rattle.ring128.specs.Signed.{word_of}
+use Rattle.ring128.specs.Signed.{word_of, signed_of, size_of}
+use Rattle.ring128.proofs.Signed.{signed-word}
 use Rattle.prg_chacha.specs.declared.seed.Seed.{Seed}
 use Rattle.query_plan.specs.KeyMessages.{Asked}
 use Rattle.query_plan.specs.Laws.{AreKeysOf}
@@ -99,13 +100,13 @@ stopped_with e query column seed ms total weighted (Ok a) failed part = absurd c
 stopped_with e query column seed ms total weighted (Err m) failed part = part
 
 -- a plain answer over some of the rows is small
-small_of : PlainIsSmall → (e : Entries) (query : Query) (column b : ℕ) → Sound e → word_of (plain query (filter (is_in column b) (rows_in e.all))) < 2 ^ 64
+small_of : PlainIsSmall → (e : Entries) (query : Query) (column b : ℕ) → Sound e → size_of (plain query (filter (is_in column b) (rows_in e.all))) < 2 ^ 48
 small_of law e query column b sound =
     let rows = rows_in e.all in
     let mine = filter (is_in column b) rows in
     let hold = All-filter (is_in column b) (Holds e.widths) rows (All-map (Holds e.widths) (λ (entry : Row × Seed). entry.0) e.all sound.rows) in
     let few : length mine ≤ 65536 = omega (arith, length-filter (is_in column b) rows, count_by-le-length (is_in column b) rows, length-map e.all (λ (entry : Row × Seed). entry.0), sound.few) in
-    omega (arith, (law e.widths query mine hold few).1)
+    law e.widths query mine hold few
 
 -- over honest messages each bucket is answered by its plain answer
 pub plain_over : GroupPairsOpen → PiecesHold → PlainIsSmall → (e : Entries) (query : Query) (column : ℕ) (seed : Seed) (ms : List Message) (total weighted : List ℕ) → Sound e
@@ -126,9 +127,8 @@ plain_over law hold small e query column seed ms total weighted sound suits keys
     let wide : length plains ≡ w = length-listed w (λ (b : ℕ). plain query (filter (is_in column b) rows)) in
     let many : length total ≡ w = ap length totals ∙ length-map plains word_of ∙ wide in
     let long : length (judged_groups query seed total weighted) ≡ length total = judged.long in
-    let good = λ (n : ℤ). answer.Good (word_of n) in
-    ext_get_or (answer.Altered 0 0) (judged_groups query seed total weighted) (map good plains)
-    (long ∙ many ∙ sym wide ∙ sym (length-map plains good))
+    ext_get_or (answer.Altered 0 0) (judged_groups query seed total weighted) (map answer.Good plains)
+    (long ∙ many ∙ sym wide ∙ sym (length-map plains answer.Good))
     (λ i h.
     let b : i < length total = omega (arith, h, long) in
     let p : i < length plains = omega (arith, b, many, wide) in
@@ -137,6 +137,7 @@ plain_over law hold small e query column seed ms total weighted sound suits keys
     let plain_at : a ≡ plain query (filter (is_in column i) rows) = get_or-listed w i (λ (b : ℕ). plain query (filter (is_in column b) rows)) d (omega (arith, p, wide)) in
     let total_at : get_or total i 0 ≡ word_of a = ap (λ (l : List ℕ). get_or l i 0) totals ∙ get_or-map word_of plains i d 0 p in
     let weighted_at : get_or weighted i 0 ≡ times key (word_of a) = ap (λ (l : List ℕ). get_or l i 0) weights ∙ get_or-map times_key plains i d 0 p in
-    let low : word_of a < 2 ^ 64 = omega (arith, ap word_of plain_at, small_of small e query column i sound) in
-    let accepts : Accepts (get_or total i 0) (get_or weighted i 0) key = record { weighs = weighted_at ∙ sym (ap (times key) total_at); small = omega (arith, total_at, low) } in
-    (judged.good i b).1 accepts ∙ ap answer.Good total_at ∙ sym (get_or-map good plains i d (answer.Altered 0 0) p))
+    let low : size_of a < 2 ^ 48 = omega (arith, ap size_of plain_at, small_of small e query column i sound) in
+    let read : signed_of (get_or total i 0) ≡ a = ap signed_of total_at ∙ signed-word a (omega (arith, low)) in
+    let accepts : Accepts (get_or total i 0) (get_or weighted i 0) key = record { weighs = weighted_at ∙ sym (ap (times key) total_at); small = omega (arith, ap size_of read, low) } in
+    (judged.good i b).1 accepts ∙ ap answer.Good read ∙ sym (get_or-map answer.Good plains i d (answer.Altered 0 0) p))

@@ -1,8 +1,7 @@
 -- The messages of a query by buckets over rows that were agreed on, what they open, and the answers.
-use Rattle.std.specs.Prelude.{ℕ, ℤ, ◌≡◌, Result, Ok, Err, List, length, map}
+use Rattle.std.specs.Prelude.{ℕ, ◌≡◌, Result, Ok, Err, List, length, map}
 use Rattle.ring128.specs.declared.memory.Memory.{Memory}
 use Rattle.onehot_column.specs.Code.{width_of}
-use Rattle.ring128.specs.Signed.{word_of}
 use Rattle.prg_chacha.specs.declared.seed.Seed.{Seed}
 use Rattle.query_plan.specs.Seeds.{weights_of}
 use Rattle.query_plan.specs.Views.{key_from}
@@ -42,4 +41,4 @@ AnswersGroups e query column seed ms total weighted (Err memory) = IsPart (group
 
 -- the plain answers over the rows, bucket by bucket
 abbrev pub plain_groups : Entries → Query → ℕ → List GroupAnswer
-plain_groups e query column = map (λ (n : ℤ). answer.Good (word_of n)) (grouped query column (width_of e.widths column) (rows_in e.all))
+plain_groups e query column = map answer.Good (grouped query column (width_of e.widths column) (rows_in e.all))

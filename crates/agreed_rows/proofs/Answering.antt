@@ -1,7 +1,6 @@
 -- A query over rows that were agreed on.
-use Rattle.std.proofs.Common.{◌≡◌, ◌∙◌, refl, sym, ap, subst, ℕ, ◌+◌, ◌*◌, ◌<◌, ◌^◌, eq-eqb, List, length, take, arith}
-use Rattle.std.specs.Prelude.{Result, Ok, Err, Bool, true, false, if◌then◌else◌, ◌==◌, ◌&&◌, nat_lt}
-use Rattle.std.proofs.lemmas.Bool.{and_parts, eqb-true, lt-ltb}
+use Rattle.std.proofs.Common.{◌≡◌, ◌∙◌, refl, sym, ap, subst, ℕ, ℤ, ◌+◌, ◌*◌, ◌<◌, ◌^◌, List, length, take, arith}
+use Rattle.std.specs.Prelude.{Result, Ok, Err}
 use Rattle.std.proofs.lemmas.List.{length-map, length-take-le}
 use Rattle.std.proofs.lemmas.List.Elements.{All-map}
 use Rattle.prg_chacha.specs.declared.seed.Seed.{Seed}
@@ -12,6 +11,8 @@ use Rattle.query_plan.specs.Seeds.{weights_of}
 use Rattle.query_plan.specs.Views.{key_from}
 use Rattle.query_plan.specs.declared.query.Query.{Query}
 use Rattle.ring128.specs.Ring.{times}
+use Rattle.ring128.specs.Signed.{word_of, signed_of, size_of}
+use Rattle.ring128.proofs.Signed.{signed-word}
 use Rattle.scan_chunks.specs.Shelf.{Held}
 use Rattle.server_rounds.specs.Groups.{by_server}
 use Rattle.server_rounds.specs.declared.opened.OpenedPair.{OpenedPair}
@@ -19,9 +20,8 @@ use Rattle.table_schema.specs.Widths.{Holds}
 use Rattle.table_schema.specs.declared.rows.Row.{Row}
 use Rattle.table_schema.specs.declared.widths.Widths.{Widths}
 use Rattle.transcript.specs.Laws.{Asks, HasColumns}
-use Rattle.transcript.specs.Plain.{plain}
 use Rattle.transcript.specs.Rows.{pieces_over}
-use Rattle.transcript.specs.Setup.{Sizes}
+use Rattle.transcript.specs.Setup.{Setup, Sizes}
 use Rattle.visit_trace.specs.Expected.{trace_of}
 use Rattle.visit_trace.specs.Seen.{AllSeen, Grew, GrewPrefix}
 use Rattle.transcript.specs.Formulas.{setup_for}
@@ -30,6 +30,7 @@ use Rattle.transcript.proofs.Held.{pieces_hold}
 use Rattle.transcript.proofs.Honest.{pair_opens}
 use Rattle.transcript.proofs.Small.{plain_is_small}
 use Rattle.weighted_check.specs.Check.{checked}
+use Rattle.weighted_check.proofs.Checked.{accepted, answered, refused, word-signed}
 use Rattle.weighted_check.specs.declared.Altered.{Altered}
 use Rattle.wire_line.specs.Messages.{IsHonest}
 use Rattle.wire_line.specs.declared.message.Message.{Message}
@@ -51,32 +52,30 @@ agreed_sound w order n h0 h1 h2 is = record { few = omega (arith, is.few, agreed
 pub agreed_rows : (w : Widths) (k : ℕ) (order : List (Row × Seed)) (n : ℕ) (h : Held) (keys : Asked) → keys.widths ≡ w → KeepsFirst w k order n h → AreRowsOf keys.widths n h
 agreed_rows w k order n h keys same keeps = subst (λ (v : Widths). AreRowsOf v n h) (sym same) (are_rows w k order n h keeps)
 
--- a pair that keeps the relation is accepted
-accepted : (total weighted key answer : ℕ) → total ≡ answer → weighted ≡ times key answer → answer < 2 ^ 64 → checked total weighted key ≡ Ok answer
-accepted total weighted key answer sum product small = rw (sum, product, eq-eqb (times key answer) (times key answer) refl, lt-ltb answer (2 ^ 64) small) refl
+-- a pair that opens an answer of a small size and the key times it is accepted
+accepted_plain : (total weighted key : ℕ) (answer : ℤ) → total ≡ word_of answer → weighted ≡ times key (word_of answer) → size_of answer < 2 ^ 48
+    → checked total weighted key ≡ Ok answer
+accepted_plain total weighted key answer sum product small =
+    let read : signed_of total ≡ answer = ap signed_of sum ∙ signed-word answer (omega (arith, small)) in
+    accepted total weighted key (record { weighs = product ∙ ap (times key) (sym sum); small = omega (arith, ap size_of read, small) }) ∙ ap Ok read
 
--- what is accepted is a total, and the key times it
-accepted_by : (key total weighted : ℕ) (b : Bool) (answer : ℕ) → (weighted == times key total && nat_lt total (2 ^ 64)) ≡ b
-    → ◌≡◌ {A = Result ℕ Altered} (if b then Ok total else Err (record { total = total; weighted = weighted })) (Ok answer) → (total ≡ answer) × (weighted ≡ times key total)
-accepted_by key total weighted true answer test e =
-    (cc, eqb-true weighted (times key total) (and_parts (weighted == times key total) (nat_lt total (2 ^ 64)) test).0)
-accepted_by key total weighted false answer test e = absurd cc
+opened-below : (s : Setup) (ms : List Message) (run : ℕ) → opened_of s ms run < 2 ^ 128
+opened-below s ms run = omega arith
 
-pub accepted_as : (query : Query) (seed : Seed) (pair : OpenedPair) (answer : ℕ) → judged query seed pair ≡ Ok answer
-    → pair ≡ record { total = answer; weighted = times (key_from (weights_of seed 1) query.count) answer }
-accepted_as query seed pair answer e =
+-- what is accepted of a pair that a query opened is its total, and the weighted total is the key times it
+pub accepted_as : (e : Entries) (query : Query) (seed : Seed) (ms : List Message) (pair : OpenedPair) (answer : ℤ) → Opens e query seed ms pair → judged query seed pair ≡ Ok answer
+    → pair ≡ record { total = word_of answer; weighted = times (key_from (weights_of seed 1) query.count) (word_of answer) }
+accepted_as e query seed ms pair answer opens says =
     let key = key_from (weights_of seed 1) query.count in
-    let is = accepted_by (key_from (weights_of seed 1) query.count) pair.total pair.weighted (pair.weighted == times (key_from (weights_of seed 1) query.count) pair.total && nat_lt pair.total (2 ^ 64)) answer refl e in
-    ap (λ (weighted : ℕ). record { total = pair.total; weighted = weighted }) is.1 ∙ ap (λ (total : ℕ). record { total = total; weighted = times (key_from (weights_of seed 1) query.count) total }) is.0
-
--- what is refused is the pair itself
-refused_by : (b : Bool) (query : Query) (seed : Seed) (pair : OpenedPair) (fault : Altered) → (if b then Ok pair.total else Err (record { total = pair.total; weighted = pair.weighted })) ≡ Err fault
-    → pair ≡ record { total = fault.total; weighted = fault.weighted }
-refused_by true query seed pair fault e = absurd cc
-refused_by false query seed pair fault e = let same : record { total = pair.total; weighted = pair.weighted } ≡ fault = cc in ap (λ (a : Altered). record { total = a.total; weighted = a.weighted }) same
+    let is = answered pair.total pair.weighted key answer says in
+    let below : pair.total < 2 ^ 128 = subst (λ (n : ℕ). n < 2 ^ 128) (sym opens.total) (opened-below (setup_over e query seed) ms 0) in
+    let total : pair.total ≡ word_of answer = sym (ap word_of is.1 ∙ word-signed pair.total below) in
+    ap (λ (weighted : ℕ). record { total = pair.total; weighted = weighted }) is.0.weighs
+    ∙ ap (λ (n : ℕ). record { total = n; weighted = times (key_from (weights_of seed 1) query.count) n }) total
 
 pub refused_as : (query : Query) (seed : Seed) (pair : OpenedPair) (fault : Altered) → judged query seed pair ≡ Err fault → pair ≡ record { total = fault.total; weighted = fault.weighted }
-refused_as query seed pair fault e = refused_by (pair.weighted == times (key_from (weights_of seed 1) query.count) pair.total && nat_lt pair.total (2 ^ 64)) query seed pair fault e
+refused_as query seed pair fault e =
+    ap (λ (a : Altered). record { total = a.total; weighted = a.weighted }) (sym (refused pair.total pair.weighted (key_from (weights_of seed 1) query.count) fault e))
 
 -- a query that is asked over an agreement, with its keys
 pub record Asking (w : Widths) (order : List (Row × Seed)) (n : ℕ) (h0 h1 h2 : Held) (query : Query) (seed : Seed) (keys : Asked) : Type 0 where
@@ -134,7 +133,7 @@ module _ (w : Widths) (order : List (Row × Seed)) (n : ℕ) (h0 h1 h2 : Held) (
       let opened = pair_opens (setup_over rows query seed) query (weights_of seed) (rows_in entries) ms (λ j. refl) asks refl opens.transcript honest in
       let small = plain_is_small w query (rows_in entries) (All-map (Holds w) (λ (entry : Row × Seed). entry.0) entries is.zero.rows)
       (omega (arith, length-map entries (λ (entry : Row × Seed). entry.0), agreed_long w order n h0 h1 h2 is, is.few)) in
-      accepted pair.total pair.weighted (key_from (weights_of seed 1) query.count) (plain_total rows query) (opens.total ∙ opened.0) (opens.weighted ∙ opened.1) (omega (arith, small.1))
+      accepted_plain pair.total pair.weighted (key_from (weights_of seed 1) query.count) (plain_total rows query) (opens.total ∙ opened.0) (opens.weighted ∙ opened.1) small
 
   -- the answer is that of the check, which is plain over honest messages
   judged_by : (pair : OpenedPair) (key n : ℕ) (r : Result Answered AnswerFault) → key ≡ key_from (weights_of keys.seed 1) keys.query.count → r ≡ answered_by n (checked pair.total pair.weighted key)
@@ -147,7 +146,7 @@ module _ (w : Widths) (order : List (Row × Seed)) (n : ℕ) (h0 h1 h2 : Held) (
   asked_answers ms pair key m r opens is count says =
       subst (λ (x : Result Answered AnswerFault). Answers rows query seed ms pair x) (sym (judged_by pair key m r is says)) (by (judged query seed pair) refl)
     where
-      by : (o : Result ℕ Altered) → judged query seed pair ≡ o → Answers rows query seed ms pair (answered_by m o)
+      by : (o : Result ℤ Altered) → judged query seed pair ≡ o → Answers rows query seed ms pair (answered_by m o)
       by (Ok total) e = (opens, e, count ∙ long)
       by (Err fault) e = (opens, e, refused_as query seed pair fault e)
 
@@ -169,6 +168,6 @@ module _ (w : Widths) (order : List (Row × Seed)) (n : ℕ) (h0 h1 h2 : Held) (
   asked_trace a b pair key m r says g =
       subst (λ (x : Result Answered AnswerFault). AddsTrace rows query a b x) (sym says) (by (checked pair.total pair.weighted key) (subst (λ (z : Sizes). Grew a b (trace_of z)) asked_sizes g))
     where
-      by : (o : Result ℕ Altered) → Grew a b (trace_of (sizes_over rows query)) → AddsTrace rows query a b (answered_by m o)
+      by : (o : Result ℤ Altered) → Grew a b (trace_of (sizes_over rows query)) → AddsTrace rows query a b (answered_by m o)
       by (Ok total) h = h
       by (Err fault) h = h

@@ -1,6 +1,5 @@
 -- The messages of a query over rows that were agreed on, what they open, and the answer.
-use Rattle.std.specs.Prelude.{◌≡◌, ℕ, ⊤, Result, Ok, Err, List, length, map}
-use Rattle.ring128.specs.Signed.{word_of}
+use Rattle.std.specs.Prelude.{◌≡◌, ℕ, ℤ, ⊤, Result, Ok, Err, List, length, map}
 use Rattle.prg_chacha.specs.declared.seed.Seed.{Seed}
 use Rattle.query_plan.specs.Seeds.{weights_of}
 use Rattle.query_plan.specs.Views.{key_from}
@@ -37,16 +36,16 @@ pub record Opens (e : Entries) (query : Query) (seed : Seed) (ms : List Message)
 abbrev pub rows_in : List (Row × Seed) → List Row
 rows_in entries = map (λ (entry : Row × Seed). entry.0) entries
 
--- the plain answer over the rows, as a number of 128 bits
-abbrev pub plain_total : Entries → Query → ℕ
-plain_total e query = word_of (plain query (rows_in e.all))
+-- the plain answer over the rows
+abbrev pub plain_total : Entries → Query → ℤ
+plain_total e query = plain query (rows_in e.all)
 
 -- what the check says of a pair that a query opened
-abbrev pub judged : Query → Seed → OpenedPair → Result ℕ Altered
+abbrev pub judged : Query → Seed → OpenedPair → Result ℤ Altered
 judged query seed pair = checked pair.total pair.weighted (key_from (weights_of seed 1) query.count)
 
 -- the answer over n rows, by what the check says
-abbrev pub answered_by : ℕ → Result ℕ Altered → Result Answered AnswerFault
+abbrev pub answered_by : ℕ → Result ℤ Altered → Result Answered AnswerFault
 answered_by n (Ok total) = Ok (record { rows = n; total = total })
 answered_by n (Err pair) = Err (faults.Altered pair.total pair.weighted)
 

@@ -18,11 +18,11 @@ use visit_trace::Trace;
 use weighted_check::{Altered, check};
 use wire_line::Wire;
 
-/// The count or sum, and over how many rows.
+/// The count or sum, which may be negative, and over how many rows.
 #[derive(Clone, Copy, Debug, PartialEq, Eq)]
 pub struct Answered {
     pub rows: u64,
-    pub total: u64,
+    pub total: i64,
 }
 
 /// Why a query was not answered: the check refused the two totals that were opened, or it was out of memory.

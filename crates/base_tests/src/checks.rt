@@ -1,25 +1,36 @@
 use weighted_check::{Altered, check};
 
+// The number of a negative integer of this size, modulo 2^128.
+fn minus(size: u128) -> u128 {
+    0u128.wrapping_sub(size)
+}
+
 #[test]
 fn checks(rt: HostRuntime) {
-    let over = 1 << 64;
-    for (total, weighted, key, accepted) in [
-        (15, 45, 3, true),
-        (15, 46, 3, false),
-        (over, 3 * over, 3, false),
-        (over - 1, 3 * (over - 1), 3, true),
-        (0, 0, 3, true),
-        (0, 1, 3, false),
-        (1 << 63, 1 << 127, (1 << 64) + 1, false),
+    let half = 1 << 63;
+    for (total, weighted, key, answer) in [
+        (15, 45, 3, Some(15)),
+        (15, 46, 3, None),
+        (0, 0, 3, Some(0)),
+        (0, 1, 3, None),
+        (minus(5), minus(15), 3, Some(-5)),
+        (minus(5), minus(14), 3, None),
+        (half - 1, 3 * (half - 1), 3, Some(9223372036854775807)),
+        (half, 3 * half, 3, None),
+        (
+            minus(half - 1),
+            minus(3 * (half - 1)),
+            3,
+            Some(-9223372036854775807),
+        ),
+        (minus(half), minus(3 * half), 3, None),
+        (1 << 64, 3 << 64, 3, None),
+        (half, 1 << 127, (1 << 64) + 1, None),
+        (1 << 127, 1 << 127, 3, None),
     ] {
-        let answer = if accepted {
-            Ok(total as u64)
-        } else {
-            Err(Altered { total, weighted })
-        };
         assert_eq!(rt;
             check(total, weighted, key),
-            answer,
+            answer.ok_or(Altered { total, weighted }),
             "{total} {weighted} {key}"
         );
     }

@@ -13,6 +13,8 @@ fn faults(rt: HostRuntime) {
         ("host:2", NO_FAULT),
         ("a_9:8@007/18446744073709551615", NO_FAULT),
         ("abcdefghijklmnop:1,b:1,c:1,d:1", NO_FAULT),
+        ("a:1,b:1,c:1,d:1,e:1", NO_FAULT),
+        ("a:8,b:8,c:8,d:8,e:8,f:8", NO_FAULT),
         ("", column(0, SchemaWhy::Name)),
         ("Host:2", column(0, SchemaWhy::Name)),
         ("_a:2", column(0, SchemaWhy::Name)),
@@ -28,8 +30,16 @@ fn faults(rt: HostRuntime) {
         ("host:2/0", column(0, SchemaWhy::Step)),
         ("host:2/5@3", column(0, SchemaWhy::Step)),
         ("host:2@18446744073709551616", column(0, SchemaWhy::Start)),
-        ("a:1,b:1,c:1,d:1,e:1", Some(SchemaFault::Count { had: 5 })),
-        (",,,,,", Some(SchemaFault::Count { had: 6 })),
+        (
+            "a:1,b:1,c:1,d:1,e:1,f:1,g:1",
+            Some(SchemaFault::Count { had: 7 }),
+        ),
+        (",,,,,,,", Some(SchemaFault::Count { had: 8 })),
+        (",,,,,", column(0, SchemaWhy::Name)),
+        (
+            "a:1,b:1,c:1,d:1,e:1,a:1",
+            Some(SchemaFault::Repeated { index: 5 }),
+        ),
         ("a:1,a:2", Some(SchemaFault::Repeated { index: 1 })),
         ("a:1,a:9", column(1, SchemaWhy::Bits)),
     ];
@@ -72,6 +82,12 @@ fn widths(rt: HostRuntime) -> Result<(), Fail> {
     assert_eq!(rt; (widths.columns, widths.bits), (1, [8, 0, 0, 0, 0, 0]));
     assert_eq!(rt; widths.cells(16_321), 4_194_497);
     assert_eq!(rt; widths.largest(), 16_320);
+    let six = read_schema(rt.alloc(), "a:8,b:8,c:8,d:8,e:8,f:8")
+        .ok()
+        .ok_or("a schema")?;
+    let wide = six.widths();
+    assert_eq!(rt; (wide.columns, wide.bits), (6, [8, 8, 8, 8, 8, 8]));
+    assert_eq!(rt; (wide.cells(1), wide.largest()), (1_537, 2_728));
     for (capacity, fits) in [(0, false), (1, true), (16_320, true), (16_321, false)] {
         assert_eq!(rt; widths.fits(capacity), fits, "at {capacity}");
     }
@@ -97,7 +113,28 @@ fn widths(rt: HostRuntime) -> Result<(), Fail> {
             },
             false,
         ),
-        (Row { value: -1, ..row }, false),
+        (Row { value: -1, ..row }, true),
+        (
+            Row {
+                value: -4_294_967_295,
+                ..row
+            },
+            true,
+        ),
+        (
+            Row {
+                value: -4_294_967_296,
+                ..row
+            },
+            false,
+        ),
+        (
+            Row {
+                value: i64::MIN,
+                ..row
+            },
+            false,
+        ),
     ];
     for (row, held) in table {
         assert_eq!(rt; widths.holds(&row), held, "the row {row:?}");

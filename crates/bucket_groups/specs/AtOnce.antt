@@ -9,15 +9,19 @@ use Rattle.transcript.specs.Setup.{Sizes}
 use Rattle.server_rounds.specs.Groups.{Pairs, AreLong, first_of, second_of}
 use Rattle.server_rounds.specs.Shelves.{AreShelves, pieces_of}
 use Rattle.server_rounds.specs.Visits.{AreVisited}
-use Rattle.bucket_groups.specs.Ending.{bucket_words, value_words}
+use Rattle.bucket_groups.specs.Ending.{bucket_words, value_products}
 
--- the shelves before and after, and the words of the products with the values
-pub record GivesValues {S : Type 0} (held : S → Held) (visited : S → List Visit) (z : Sizes) (run : ℕ) (views : ℕ → View)
-    (chain : Pairs) (server : ℕ) (old new : List S) (result : Result (List ℕ) Memory) : Type 0 where
+-- a pair a row, and the server's shelves
+pub record CanValue {S : Type 0} (held : S → Held) (z : Sizes) (chain : Pairs) (shelves : List S) : Type 0 where
+  pub chain_long : AreLong z.rows chain
+  pub rows : AreShelves z.widths z.rows (map held shelves)
+
+-- the shelves before and after, and the numbers of the products with the values
+pub record GivesValues {S : Type 0} (held : S → Held) (visited : S → List Visit) (z : Sizes) (chain : Pairs) (server : ℕ)
+    (old new : List S) (result : Result (List ℕ) Memory) : Type 0 where
   pub same : map held new ≡ map held old
   pub long : IfOk result (λ w. length w ≡ z.rows)
-  pub words : IfOk result (λ w. w ≡ value_words z run (views server) (pieces_of (map held old))
-      (first_of chain server) (second_of chain server))
+  pub numbers : IfOk result (λ w. w ≡ value_products z (pieces_of (map held old)) (first_of chain server) (second_of chain server))
   pub visits : AreVisited held visited (z.widths.columns ∷ []) old new result
 
 -- a run, a column of the table, a pair a row, and the server's shelves

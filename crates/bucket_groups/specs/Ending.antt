@@ -4,7 +4,7 @@ use Rattle.list_facts.specs.Listed.{listed}
 use Rattle.prg_chacha.specs.declared.seed.Seed.{Seed}
 use Rattle.ring128.specs.Ring.{plus}
 use Rattle.zero_share.specs.Zero.{part_of}
-use Rattle.share_product.specs.Product.{local_rows_of, inner_of}
+use Rattle.share_product.specs.Product.{locals_of, local_rows_of, inner_of}
 use Rattle.scan_chunks.specs.Pieces.{Pieces, row_of}
 use Rattle.table_schema.specs.declared.shapes.Aggregate.{Aggregate}
 use Rattle.table_schema.specs.declared.shapes.Aggregate.TheVariants.{Count, Sum}
@@ -32,6 +32,12 @@ abbrev pub value_words : Sizes → ℕ → View → Pieces → List ℕ → List
 value_words z run view pieces first second =
     let value = z.widths.columns in
     local_rows_of first second (pieces.first value) (pieces.second value) view.own view.next ((32 + 2 * run) * 65536)
+
+-- the same without the zero parts
+abbrev pub value_products : Sizes → Pieces → List ℕ → List ℕ → List ℕ
+value_products z pieces first second =
+    let value = z.widths.columns in
+    locals_of first second (pieces.first value) (pieces.second value)
 
 -- for each of `width` buckets, the sum over `n` rows of the local products of their pairs with their cells of the bucket
 abbrev pub sums_of : ℕ → ℕ → List ℕ → List ℕ → List ℕ → List ℕ → List ℕ

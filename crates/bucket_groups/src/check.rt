@@ -9,10 +9,10 @@ use std::alloc::Global;
 use std::marker::Model;
 use weighted_check::check;
 
-/// What the client answers for a bucket: the total, or the pair as it was opened where that is refused.
+/// What the client answers for a bucket: the count or sum, which may be negative, or the pair as it was opened where that is refused.
 #[derive(Clone, Copy, Debug, PartialEq, Eq)]
 pub enum GroupAnswer {
-    Good { total: u64 },
+    Good { total: i64 },
     Altered { total: u128, weighted: u128 },
 }
 

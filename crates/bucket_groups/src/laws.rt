@@ -29,7 +29,7 @@ pub fn one_bucket_refused(
     total: &[u128],
     weighted: &[u128],
     bucket: usize,
-    plain: u64,
+    plain: i64,
     d: u128,
     e: u128,
     key: u128,

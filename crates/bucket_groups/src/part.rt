@@ -5,13 +5,13 @@ ghost use Rattle.server_rounds.specs.Groups.{AreLong, first_of, second_of};
 ghost use Rattle.server_rounds.specs.Plans.{views_of};
 ghost use Rattle.server_rounds.specs.Shelves.{AreShelves, pieces_of};
 ghost use Rattle.server_rounds.specs.Visits.{AreVisited};
-ghost use Rattle.bucket_groups.specs.Ending.{bucket_words, value_words};
+ghost use Rattle.bucket_groups.specs.Ending.{bucket_words, value_products};
 
 use crate::sums::bucket_sums;
 use ring128::{Memory, Words};
 use scan_chunks::Shelf;
 use server_rounds::{Held, Ready, with_zeros};
-use share_product::local_rows;
+use share_product::locals;
 use std::alloc::Global;
 use table_schema::Widths;
 
@@ -24,8 +24,8 @@ fn width(widths: &Widths, column: u8) -> usize
     1 << widths.bits[column as usize]
 }
 
-// The counter of a step's first zero part in a run.
-fn counter(step: u64, run: u8) -> u64
+/// The counter of a step's first zero part in a run.
+pub(crate) fn counter(step: u64, run: u8) -> u64
     requires step { step < 64 }
     requires run { run < 2 }
     ensures value { result ≡ (step + 2 * run) * 65536 }
@@ -34,36 +34,26 @@ fn counter(step: u64, run: u8) -> u64
     (step + 2 * u64::from(run)) * 65_536
 }
 
-/// A server's words of the products with the values.
+/// A server's numbers of the products with the values, without their parts of zero.
 pub(crate) fn value_part<S: Shelf>(
     alloc: Global,
     ready: &Ready,
     server: u8,
     shelves: &mut Vec<S>,
     chain: &Held,
-    run: u8,
 ) -> Result<Words, Memory>
     requires server { server < 3 }
-    requires run { run < 2 }
     requires chain { AreLong ready.now.plan.rows chain.now }
     requires shelves { AreShelves ready.now.plan.widths ready.now.plan.rows (map S.held shelves.old.items) }
     ensures held { map S.held shelves.new.items ≡ map S.held shelves.old.items }
     ensures long { IfOk result (λ w. length w ≡ ready.now.plan.rows) }
-    ensures words { IfOk result (λ w. w ≡ value_words ready.now.plan run (views_of ready.now.keys server)
-        (pieces_of (map S.held shelves.old.items)) (first_of chain.now server) (second_of chain.now server)) }
+    ensures numbers { IfOk result (λ w. w ≡ value_products ready.now.plan (pieces_of (map S.held shelves.old.items))
+        (first_of chain.now server) (second_of chain.now server)) }
     ensures visits { AreVisited S.held S.visited (ready.now.plan.widths.columns ∷ []) shelves.old.items shelves.new.items result }
 {
-    ready.rows();
     let values = ready.cells(alloc, shelves, ready.widths().columns)?;
-    let start = counter(32, run);
-    let words = local_rows(
-        alloc,
-        chain.of_server(server),
-        &values,
-        ready.zero(server),
-        start,
-    )?;
-    Ok(words)
+    let numbers = locals(alloc, chain.of_server(server), &values)?;
+    Ok(numbers)
 }
 
 /// A server's words of the openings, one a bucket.

@@ -15,6 +15,7 @@ ghost use Rattle.bucket_groups.specs.Rounds.{AreOpened, AreValued, IsValuePart, 
 ghost use Rattle.bucket_groups.specs.Seen.{buckets_part, values_part};
 
 use crate::at_once::{buckets_at_once, values_at_once};
+use crate::part::counter;
 use ring128::{Memory, Words, add_into};
 use scan_chunks::Shelf;
 use server_rounds::{
@@ -60,12 +61,14 @@ fn value_round<R: Threads + Sync, S: Shelf + Send, W: Wire>(
         alloc,
         ready,
         chain,
-        run,
         &mut shelves.zero,
         &mut shelves.one,
         &mut shelves.two,
     );
-    let words = all_three(zero, others)?;
+    let numbers = all_three(zero, others)?;
+    ready.rows();
+    let start = counter(32, run);
+    let words = ready.with_three_zeros(rt, start, shelves.zero.len(), numbers);
     let held = reshare_noted(alloc, shelves, wire, trace, words)?;
     Ok(held)
 }

@@ -152,7 +152,7 @@ fn ask<R: Threads + Sync, W: Wire>(
     group_runs(rt, alloc, &mut shelves, keys, 0, wire, trace)
 }
 
-fn good(total: u64) -> GroupAnswer {
+fn good(total: i64) -> GroupAnswer {
     GroupAnswer::Good { total }
 }
 

@@ -14,7 +14,7 @@ one_hot size place = listed size (λ x. if x == place then 1 else 0)
 abbrev pub width_of : Widths → ℕ → ℕ
 width_of w column = if column == w.columns then 1 else 2 ^ slice_index w.bits column
 
--- the code of a row at a column: 1 at its bucket and 0 elsewhere; or its value
+-- the code of a row at a column: 1 at its bucket and 0 elsewhere; or its value modulo 2 ^ 128
 abbrev pub code_at : Widths → ℕ → Row → List ℕ
 code_at w column row =
     if column == w.columns then word_of row.value ∷ []

@@ -82,7 +82,7 @@ impl Piece {
         (first, second)
     }
 
-    /// The shares of the row's value, which is the last number of the code.
+    /// The shares of the row's value modulo 2^128, which is the last number of the code.
     pub fn value(&self) -> Pair
         requires { 0 < length self.now.cells.first }
         ensures first { result.first ≡ slice_index self.now.cells.first (length self.now.cells.first - 1) }

@@ -10,7 +10,7 @@ use Rattle.report_lines.specs.declared.lines.Who.{Who}
 use Rattle.ring128.specs.declared.memory.Memory.{Memory}
 use Rattle.table_schema.specs.declared.widths.Widths.{Widths}
 use Rattle.visit_trace.specs.Expected.{trace_of}
-use Rattle.visit_trace.specs.Growing.{grew_both, grew_nothing, prefix_begun, prefix_cut, prefix_none, prefix_whole, seen_then, then_at}
+use Rattle.visit_trace.specs.Growing.{grew_both, grew_nothing, prefix_begun, prefix_cut, prefix_none, prefix_whole, seen_joins, seen_then, then_nothing}
 use Rattle.visit_trace.specs.Seen.{AddsPrefix, AllSeen, Grew, GrewPrefix, SawMore, SawPrefix, Seen, alike, nothing}
 use Rattle.agreed_rows.specs.Answers.{sizes_over}
 use Rattle.agreed_rows.specs.declared.query.Answered.{Answered}
@@ -28,21 +28,6 @@ use Rattle.race_play.specs.Settings.{Setting, setting_of}
 use Rattle.race_play.specs.declared.setting.Race.{Race}
 
 -- ---- one part after another
-
-then_joins : (p q r : Seen) → then_at (then_at p q) r ≡ then_at p (then_at q r)
-then_joins p q r =
-    ap (λ v. record { visits = v; lengths = (p.lengths ++ q.lengths) ++ r.lengths }) (append_assoc p.visits q.visits r.visits)
-    ∙ ap (λ (l : List ℕ). record { visits = p.visits ++ (q.visits ++ r.visits); lengths = l }) (append_assoc p.lengths q.lengths r.lengths)
-
-seen_joins : (p q r : AllSeen) → seen_then (seen_then p q) r ≡ seen_then p (seen_then q r)
-seen_joins p q r =
-    ap (λ (s : Seen). record { zero = s; one = then_at (then_at p.one q.one) r.one; two = then_at (then_at p.two q.two) r.two }) (then_joins p.zero q.zero r.zero)
-    ∙ ap (λ (s : Seen). record { zero = then_at p.zero (then_at q.zero r.zero); one = s; two = then_at (then_at p.two q.two) r.two }) (then_joins p.one q.one r.one)
-    ∙ ap (λ (s : Seen). record { zero = then_at p.zero (then_at q.zero r.zero); one = then_at p.one (then_at q.one r.one); two = s }) (then_joins p.two q.two r.two)
-
-then_nothing : (s : Seen) → then_at s nothing ≡ s
-then_nothing s =
-    ap (λ v. record { visits = v; lengths = s.lengths ++ [] }) (append-nil s.visits) ∙ ap (λ (l : List ℕ). record { visits = s.visits; lengths = l }) (append-nil s.lengths)
 
 -- what holds in any case holds where memory ran out
 pub if_err : {T E : Type 0} (r : Result T E) (P : Type 0) → P → OnErr r P

@@ -1,5 +1,5 @@
 -- The line of an agreement, and of an ask.
-use Rattle.std.specs.Prelude.{ℕ, Result, Ok, Err, length}
+use Rattle.std.specs.Prelude.{ℕ, ℤ, Result, Ok, Err, length}
 use Rattle.report_lines.specs.declared.lines.Line.{Line}
 use Rattle.report_lines.specs.declared.lines.Line.TheVariants as lines
 use Rattle.report_lines.specs.declared.lines.Who.{Who}
@@ -29,6 +29,6 @@ line_of_ask who rows aggregate (Err (ask.Again server had floor)) = Err (record 
 line_of_ask who rows aggregate (Err ask.Memory) = Err (record {})
 
 -- the line of what the check says over this number of rows: the total, or the pair that it refuses
-abbrev pub answer_line : Who → ℕ → Aggregate → Result ℕ Altered → Line
+abbrev pub answer_line : Who → ℕ → Aggregate → Result ℤ Altered → Line
 answer_line who rows aggregate (Ok total) = lines.Answer who rows aggregate total
 answer_line who rows aggregate (Err pair) = lines.Altered who rows pair.total pair.weighted

@@ -1,5 +1,6 @@
 -- The texts of a report's lines.
 use Rattle.std.specs.Prelude.{ℕ, List, [], ◌∷◌, ◌++◌, codes, decimal, flat_map}
+use Rattle.std.specs.Fmt.{signed_decimal}
 use Rattle.table_schema.specs.declared.shapes.Aggregate.{Aggregate}
 use Rattle.table_schema.specs.declared.shapes.Aggregate.TheVariants.{Count, Sum}
 use Rattle.report_lines.specs.declared.lines.RowWhy.{RowWhy}
@@ -43,7 +44,7 @@ refused_text total weighted = codes "altered total " ++ decimal total ++ codes "
 -- a line's text, without its line feed
 abbrev pub line_text : Line → List ℕ
 line_text (lines.Answer who rows aggregate total) =
-    who_text who ++ codes " rows " ++ decimal rows ++ codes " " ++ aggregate_text aggregate ++ codes " " ++ decimal total
+    who_text who ++ codes " rows " ++ decimal rows ++ codes " " ++ aggregate_text aggregate ++ codes " " ++ signed_decimal total
 line_text (lines.Altered who rows total weighted) =
     who_text who ++ codes " rows " ++ decimal rows ++ codes " " ++ refused_text total weighted
 line_text (lines.Again who server had floor) = who_text who ++ codes " " ++ gap_text server had floor
@@ -59,10 +60,10 @@ line_text (lines.Trace index server visits words) =
     ++ codes " visits " ++ decimal visits ++ codes " words " ++ decimal words
 line_text (lines.Tree low high total nodes) =
     codes "tree 0 places " ++ decimal low ++ codes " to " ++ decimal high
-    ++ codes " count " ++ decimal total ++ codes " nodes " ++ decimal nodes
+    ++ codes " count " ++ signed_decimal total ++ codes " nodes " ++ decimal nodes
 line_text (lines.TreeAltered total weighted) = codes "tree 0 " ++ refused_text total weighted
 line_text (lines.Group index bucket rows aggregate total) =
-    bucket_text index bucket ++ codes " rows " ++ decimal rows ++ codes " " ++ aggregate_text aggregate ++ codes " " ++ decimal total
+    bucket_text index bucket ++ codes " rows " ++ decimal rows ++ codes " " ++ aggregate_text aggregate ++ codes " " ++ signed_decimal total
 line_text (lines.GroupAltered index bucket total weighted) =
     bucket_text index bucket ++ codes " " ++ refused_text total weighted
 line_text (lines.BadWord index) = codes "waldo: bad word " ++ decimal index

@@ -17,7 +17,7 @@ pub enum RowWhy {
     Number,
     /// A number has no bucket in its column.
     Domain,
-    /// The number of the last field is above the greatest value.
+    /// The last field has a size above the greatest value.
     Value,
 }
 
@@ -33,12 +33,12 @@ pub enum Who {
 /// A line of a report.
 #[derive(Drop)]
 pub enum Line {
-    /// The count or sum over the first `rows` rows.
+    /// The count or sum over the first `rows` rows. A sum may be negative.
     Answer {
         who: Who,
         rows: u64,
         aggregate: Aggregate,
-        total: u64,
+        total: i64,
     },
     /// The check refused the opened total and weighted total.
     Altered {
@@ -97,7 +97,7 @@ pub enum Line {
     Tree {
         low: u64,
         high: u64,
-        total: u64,
+        total: i64,
         nodes: u64,
     },
     /// The check refused the total and weighted total that were opened for a range of places.
@@ -105,13 +105,14 @@ pub enum Line {
         total: u128,
         weighted: u128,
     },
-    /// The count or sum over those of `rows` rows that have a bucket, of the query by the buckets of a column with this index.
+    /// The count or sum, which may be negative, over those of `rows` rows that have a bucket, of the query by the buckets of a column with
+    /// this index.
     Group {
         index: u64,
         bucket: u8,
         rows: u64,
         aggregate: Aggregate,
-        total: u64,
+        total: i64,
     },
     /// The check refused the total and weighted total that such a query opened for a bucket.
     GroupAltered {

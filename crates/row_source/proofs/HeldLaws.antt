@@ -1,6 +1,9 @@
 -- The rows that are read are rows of the columns.
-use Rattle.std.proofs.Common.{◌≡◌, ◌⊎◌, map, ◌≢◌, ◌∙◌, ◌&&◌, refl, sym, ap, subst, ℕ, zero, suc, ◌+◌, ◌-◌, ◌/◌, ◌^◌, ◌<◌, ◌≤◌, Bool, true, false, cond, rules, eqb, leb, ltb, List, [], ◌∷◌, ◌++◌, All, length, drop, get_or, set, Option, Some, None, Result, Ok, Err, ℤ, pos, arith, add-one, inl, inr, drop-cons, length-set, get_or-set_same, get_or-set_other}
+use Rattle.std.proofs.Common.{◌≡◌, ◌⊎◌, map, ◌≢◌, ◌∙◌, ◌&&◌, refl, sym, ap, subst, ℕ, zero, suc, ◌+◌, ◌-◌, ◌/◌, ◌^◌, ◌<◌, ◌≤◌, Bool, true, false, cond, eqb, leb, ltb, List, [], ◌∷◌, ◌++◌, All, length, drop, get_or, set, Option, Some, None, Result, Ok, Err, ℤ, pos, neg_ℤ, arith, add-one, inl, inr, drop-cons, length-set, get_or-set_same, get_or-set_other}
 use Rattle.std.specs.Prelude.{IfOk}
+use Rattle.std.specs.Str.{is_utf8}
+use Rattle.std.proofs.lemmas.Int.{ints}
+use Rattle.text_reading.specs.Number.{number_of}
 use Rattle.std.specs.Option.{ok_or}
 use Rattle.std.proofs.lemmas.Bool.{cases_eq, cases_lt, ltb-true, leb-true}
 use Rattle.std.proofs.Math.ListN.{get_or-eq_default}
@@ -15,9 +18,9 @@ use Rattle.table_schema.specs.declared.widths.Widths.{Widths}
 use Rattle.table_schema.specs.declared.schema.Column.{Column}
 use Rattle.table_schema.specs.declared.rows.Row.{Row}
 use Rattle.report_lines.specs.declared.lines.RowWhy.{RowWhy}
-use Rattle.report_lines.specs.declared.lines.RowWhy.TheVariants.{Fields, Domain, Value}
+use Rattle.report_lines.specs.declared.lines.RowWhy.TheVariants.{Fields, Domain, Number, Text, Value}
 use Rattle.row_source.proofs.RowOf.{Below, IsRowOf, no_column}
-use Rattle.row_source.specs.Rows.{AreRowsOf, bucket_field, is_header, number_field, row_from, row_of, rows_from, rows_of, value_field, with_row}
+use Rattle.row_source.specs.Rows.{AreRowsOf, bucket_field, is_header, number_field, row_from, row_of, rows_from, rows_of, sign_of, value_field, value_of, with_row}
 use Rattle.text_reading.specs.Reading.{Gives}
 use Rattle.row_source.specs.declared.faults.RowFault.{RowFault}
 use Rattle.row_source.specs.declared.faults.RowFault.TheVariants as fault
@@ -45,15 +48,25 @@ field_fits k f b e =
     let (n, en, eb) = bind_ok (number_field f) (λ n. ok_or (bucket_of k n) Domain) b e in
     bucket_fits k n b (ok_some (bucket_of k n) Domain b eb)
 
+signed_fits : (below : Bool) (n : ℕ) → n ≤ 4294967295 → IsValue (cond below (neg_ℤ (pos n)) (pos n))
+signed_fits false n le = (omega (arith, ints), omega (arith, ints))
+signed_fits true n le = (omega (arith, ints), omega (arith, ints))
+
 value_fits : (f : List ℕ) (v : ℤ) → value_field f ≡ Ok v → IsValue v
 unfolding value_field
-value_fits f v e =
-    let (n, en, ev) = bind_ok (number_field f) (λ n. cond (leb n 4294967295) (Ok (pos n)) (Err Value)) v e in
-    by n (leb n 4294967295) refl ev
+value_fits f v e = by (is_utf8 f) e
   where
-    by : (n : ℕ) (p : Bool) → leb n 4294967295 ≡ p → cond p (Ok (pos n)) (Err Value) ≡ Ok v → IsValue v
-    by n true h s = let same : pos n ≡ v = cc in let le = leb-true n 4294967295 h in subst (λ (x : ℤ). IsValue x) same (search rules, search (rules, le))
-    by n false h s = absurd cc
+    sized : (below : Bool) (n : ℕ) (p : Bool) → leb n 4294967295 ≡ p → cond p (Ok (cond below (neg_ℤ (pos n)) (pos n))) (Err Value) ≡ Ok v → IsValue v
+    sized below n true h s =
+        let same : cond below (neg_ℤ (pos n)) (pos n) ≡ v = cc in
+        subst (λ (x : ℤ). IsValue x) same (signed_fits below n (leb-true n 4294967295 h))
+    sized below n false h s = absurd cc
+
+    by : (t : Bool) → cond t (ok_or (number_of (sign_of f).1) Number >>= value_of (sign_of f).0) (Err Text) ≡ Ok v → IsValue v
+    by true h =
+        let (n, en, ev) = bind_ok (ok_or (number_of (sign_of f).1) Number) (value_of (sign_of f).0) v h in
+        sized (sign_of f).0 n (leb n 4294967295) refl ev
+    by false h = absurd cc
 
 set_below : (columns : List Column) (buckets : List ℕ) (i b : ℕ) → i < length buckets → b < 2 ^ (get_or columns i no_column).bits → Below columns buckets i
     → Below columns (set buckets i b) (i + 1)

@@ -1,6 +1,6 @@
 -- What the rows of an input are, or its first fault.
-use Rattle.std.specs.Prelude.{◌≡◌, ℕ, ◌+◌, ◌&&◌, ◌==◌, Bool, false, List, [], ◌∷◌, ◌++◌, All, length, map, Result, Ok, Err, if◌then◌else◌}
-use Rattle.std.specs.Prelude.{nat_lt, nat_le, codes, slice_set, ℤ, pos}
+use Rattle.std.specs.Prelude.{◌≡◌, ℕ, ◌+◌, ◌&&◌, ◌==◌, Bool, true, false, List, [], ◌∷◌, ◌++◌, All, length, map, Result, Ok, Err, if◌then◌else◌}
+use Rattle.std.specs.Prelude.{nat_lt, nat_le, codes, slice_set, ℤ, pos, neg_ℤ}
 use Rattle.std.specs.Option.{ok_or}
 use Rattle.std.specs.Str.{bytes_eq, is_utf8}
 use Rattle.csv.specs.Reading.{default_config, records, strip_bom}
@@ -24,9 +24,19 @@ number_field field = if is_utf8 field then ok_or (number_of field) Number else E
 unfoldable pub bucket_field : Column → List ℕ → Result ℕ RowWhy
 bucket_field column field = number_field field >>= λ n. ok_or (bucket_of column n) Domain
 
--- the value of the last field
+-- whether a text begins with `-`, and what follows that
+abbrev pub sign_of : List ℕ → Bool × List ℕ
+sign_of [] = (false, [])
+sign_of (b ∷ bs) = if b == 45 then (true, bs) else (false, b ∷ bs)
+
+-- the value of a size that is within the limits, below zero or not
+abbrev pub value_of : Bool → ℕ → Result ℤ RowWhy
+value_of below size = if nat_le size 4294967295 then Ok (if below then neg_ℤ (pos size) else pos size) else Err Value
+
+-- the value of the last field: its size is a number, and where it is below zero a `-` stands before that
 unfoldable pub value_field : List ℕ → Result ℤ RowWhy
-value_field field = number_field field >>= λ n. if nat_le n 4294967295 then Ok (pos n) else Err Value
+value_field field =
+    if is_utf8 field then (ok_or (number_of (sign_of field).1) Number >>= value_of (sign_of field).0) else Err Text
 
 -- the row of the columns and fields that are left, behind the first `i` buckets
 unfoldable pub row_from : List Column → ℕ → List ℕ → List (List ℕ) → Result Row RowWhy

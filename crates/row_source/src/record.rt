@@ -2,7 +2,7 @@ ghost use Rattle.std.specs.Prelude.{◌≡◌, ◌<◌, Some, length};
 ghost use Rattle.std.specs.Str.{is_utf8};
 ghost use Rattle.csv.specs.Records.{field_at, fields_of};
 ghost use Rattle.text_reading.specs.Reading.{Reads};
-ghost use Rattle.row_source.specs.Rows.{number_field, row_of, is_header, value_field};
+ghost use Rattle.row_source.specs.Rows.{number_field, row_of, is_header, sign_of, value_field, value_of};
 
 use csv::ByteRecord;
 use report_lines::RowWhy;
@@ -46,20 +46,46 @@ fn number_in(field: &[u8]) -> Result<u64, RowWhy>
     }
 }
 
+// Whether a text begins with `-`, and what follows that.
+fn sign(text: &[u8]) -> (bool, &[u8])
+    ensures below { result.0 ≡ (sign_of text.now).0 }
+    ensures size { result.1.now ≡ (sign_of text.now).1 }
+{
+    match text {
+        [first, rest @ ..] => {
+            if *first == b'-' {
+                (true, rest)
+            } else {
+                (false, text)
+            }
+        }
+        [] => (false, text),
+    }
+}
+
+// The value of a size, below zero or not, where it is within the limits.
+fn value(is_below: bool, size: u64) -> Result<i64, RowWhy>
+    ensures { Reads (λ v. v) result (value_of is_below size) }
+{
+    if size > 4_294_967_295 {
+        return Err(RowWhy::Value);
+    }
+    let size = size as i64;
+    Ok(if is_below { -size } else { size })
+}
+
 // The value of the last field, or its first fault.
 #[tactic(auto, unfolding(crate::specs::Rows::value_field))]
 fn value_in(field: &[u8]) -> Result<i64, RowWhy>
     ensures { Reads (λ v. v) result (value_field field.now) }
 {
-    match number_in(field) {
-        Err(why) => Err(why),
-        Ok(n) => {
-            if n <= 4_294_967_295 {
-                Ok(n as i64)
-            } else {
-                Err(RowWhy::Value)
-            }
-        }
+    if !is_text(field) {
+        return Err(RowWhy::Text);
+    }
+    let (is_below, digits) = sign(field);
+    match number(digits) {
+        Some(size) => value(is_below, size),
+        None => Err(RowWhy::Number),
     }
 }
 

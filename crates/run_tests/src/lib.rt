@@ -8,8 +8,12 @@ mod groups;
 #[cfg(test)]
 mod races;
 #[cfg(test)]
+mod rows;
+#[cfg(test)]
 mod runs;
 #[cfg(test)]
 mod tampers;
+#[cfg(test)]
+mod totals;
 #[cfg(test)]
 mod trees;

@@ -20,7 +20,7 @@ const FOUR: &str = "host,level,value\n3,1,10\n3,0,20\n1,1,40\n3,1,80\n";
 /// What comes before the shifts, an input, the shifts, the status and the text that is put. Twice the key is 22373722559603869626.
 type Case = (&'static str, &'static str, &'static str, u8, &'static str);
 
-const CASES: [Case; 16] = [
+const CASES: [Case; 21] = [
     // The opening of server 0 in run 0, seen in one of the two totals.
     (
         COUNT,
@@ -37,13 +37,41 @@ const CASES: [Case; 16] = [
         0,
         "ask 0 rows 3 count 3\n",
     ),
-    // The relation is kept, but the total is 2^64 and more.
+    // The relation is kept, but the signed total has a size of more than 2^63, of 2^63 and of 2^63 - 1.
     (
         COUNT,
         INPUT,
         "6:0:18446744073709551616 12:0:key*18446744073709551616",
         7,
         "ask 0 rows 3 altered total 18446744073709551618 weighted 206361167016597191147065126915094677434\n",
+    ),
+    (
+        COUNT,
+        INPUT,
+        "6:0:9223372036854775806 12:0:key*9223372036854775806",
+        7,
+        "ask 0 rows 3 altered total 9223372036854775808 weighted 103180583508298595562345702177745403904\n",
+    ),
+    (
+        COUNT,
+        INPUT,
+        "6:0:340282366920938463454151235394913435646 12:0:key*340282366920938463454151235394913435646",
+        7,
+        "ask 0 rows 3 altered total 340282366920938463454151235394913435648 weighted 237101783412639867901028905254022807552\n",
+    ),
+    (
+        COUNT,
+        INPUT,
+        "6:0:9223372036854775805 12:0:key*9223372036854775805",
+        0,
+        "ask 0 rows 3 count 9223372036854775807\n",
+    ),
+    (
+        COUNT,
+        INPUT,
+        "6:0:340282366920938463454151235394913435647 12:0:key*340282366920938463454151235394913435647",
+        0,
+        "ask 0 rows 3 count -9223372036854775807\n",
     ),
     // A second list that a count of one predicate doesn't use, in either run.
     (COUNT, INPUT, "3:0:1", 0, "ask 0 rows 3 count 2\n"),
@@ -108,13 +136,20 @@ const CASES: [Case; 16] = [
         7,
         "ask 0 rows 3 altered total 7 weighted 22373722559603869631\n",
     ),
-    // A total may also be made smaller.
+    // A total may also be made smaller, and even less than 0.
     (
         COUNT,
         INPUT,
         "6:0:340282366920938463463374607431768211455 12:0:key*340282366920938463463374607431768211455",
         0,
         "ask 0 rows 3 count 1\n",
+    ),
+    (
+        COUNT,
+        INPUT,
+        "6:0:340282366920938463463374607431768211453 12:0:key*340282366920938463463374607431768211453",
+        0,
+        "ask 0 rows 3 count -1\n",
     ),
     (
         COUNT,

@@ -1,5 +1,5 @@
 -- Stages that differ in their lines alone: what an answer opens changes nothing else.
-use Rattle.std.proofs.Common.{◌≡◌, ◌∙◌, refl, sym, ap, subst, ℕ, ◌+◌, Bool, true, cond, List, length, get_or, set, slice_get, Option, Some, None, option_map, Result, Ok, Err}
+use Rattle.std.proofs.Common.{◌≡◌, ◌∙◌, refl, sym, ap, subst, ℕ, ℤ, ◌+◌, Bool, true, cond, List, length, get_or, set, slice_get, Option, Some, None, option_map, Result, Ok, Err}
 use Rattle.std.specs.Prelude.{⊤}
 use Rattle.prg_chacha.specs.Prg.{derive_of}
 use Rattle.prg_chacha.specs.declared.seed.Seed.{Seed}
@@ -45,7 +45,7 @@ same_itself : (o : Option (Core × Reply)) → SameSteps o o
 same_itself None = tt
 same_itself (Some u) = (refl, refl)
 
-asked_reply : (n : ℕ) (r : Result ℕ Refused) → is_asked (reply_of n r) ≡ true
+asked_reply : (n : ℕ) (r : Result ℤ Refused) → is_asked (reply_of n r) ≡ true
 asked_reply n (Ok total) = refl
 asked_reply n (Err pair) = refl
 

@@ -1,5 +1,5 @@
 -- Queries of which some had their messages received as they were sent: the lines of these are plain, whatever was altered in the others.
-use Rattle.std.proofs.Common.{◌≡◌, ◌∙◌, refl, sym, ap, subst, ℕ, zero, suc, ◌+◌, ◌*◌, Bool, false, ◌||◌, Option, Some, None, Result, Ok, Err, List, [], ◌∷◌, ◌++◌, length, slice_get, min, IfSome, IsSomeAnd, arith, append-nil}
+use Rattle.std.proofs.Common.{◌≡◌, ◌∙◌, refl, sym, ap, subst, ℕ, ℤ, zero, suc, ◌+◌, ◌*◌, Bool, false, ◌||◌, Option, Some, None, Result, Ok, Err, List, [], ◌∷◌, ◌++◌, length, slice_get, min, IfSome, IsSomeAnd, arith, append-nil}
 use Rattle.std.specs.List.{flat_map, range_with_len}
 use Rattle.std.proofs.lemmas.Bool.{le-ltb}
 use Rattle.std.proofs.lemmas.Option.{same_Some}
@@ -10,7 +10,6 @@ use Rattle.report_lines.specs.declared.lines.Line.{Line}
 use Rattle.server_rounds.specs.declared.opened.OpenedPair.{OpenedPair}
 use Rattle.table_schema.specs.declared.rows.Row.{Row}
 use Rattle.table_schema.specs.declared.widths.Widths.{Widths}
-use Rattle.ring128.specs.Signed.{word_of}
 use Rattle.transcript.specs.Laws.{PlainIsSmall}
 use Rattle.transcript.specs.Plain.{plain as plain_answer}
 use Rattle.weighted_check.specs.declared.Altered.{Altered}
@@ -198,10 +197,10 @@ pub asked_honestly : PlainIsSmall → AskedInOrder → AskedHonestly
 asked_honestly known order w s history legal has plain i query is honest =
     let from_none : 0 + i ≡ i = omega arith in
     let pairs = pair_of_query s history in
-    let said : check_of s i query (pairs i) ≡ Ok (word_of (plain_answer query s.rows)) =
+    let said : check_of s i query (pairs i) ≡ Ok (plain_answer query s.rows) =
     ap (check_of s i query) (honest_pair w s history has plain i query is honest) ∙ plain_verdict known w s legal i query in
     has_line (asked_lines s pairs 0 s.queries) i _ _
     (line_at s pairs 0 s.queries i query is
     ∙ ap (λ (m : ℕ). Some (checked_line (length s.rows) m query (check_of s m query (pairs m)))) from_none
-    ∙ ap (λ (c : Result ℕ Altered). Some (checked_line (length s.rows) i query c)) said)
+    ∙ ap (λ (c : Result ℤ Altered). Some (checked_line (length s.rows) i query c)) said)
     (order w s history legal)

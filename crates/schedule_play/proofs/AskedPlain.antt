@@ -1,8 +1,9 @@
 -- The same queries where nothing is altered: each line is the plain answer.
-use Rattle.std.proofs.Common.{◌≡◌, ◌∙◌, refl, ap, ℕ, suc, ◌+◌, ◌<◌, ◌≤◌, ◌^◌, Bool, false, ◌||◌, Some, Result, Ok, Err, List, [], ◌∷◌, length, slice_get, map, max, take, arith, eq-eqb}
+use Rattle.std.proofs.Common.{◌≡◌, ◌∙◌, refl, ap, ℕ, ℤ, suc, ◌+◌, ◌<◌, ◌≤◌, ◌^◌, Bool, false, ◌||◌, Some, Result, Ok, Err, List, [], ◌∷◌, length, slice_get, map, max, take, arith, eq-eqb}
 use Rattle.std.proofs.lemmas.Bool.{lt-ltb}
 use Rattle.std.proofs.lemmas.List.{take_all}
-use Rattle.ring128.specs.Signed.{word_of}
+use Rattle.ring128.specs.Signed.{word_of, signed_of, size_of}
+use Rattle.ring128.proofs.Signed.{signed-word}
 use Rattle.prg_chacha.specs.Prg.{derive_of}
 use Rattle.prg_chacha.specs.declared.seed.Seed.{Seed}
 use Rattle.query_plan.specs.Seeds.{weights_of}
@@ -31,8 +32,11 @@ use Rattle.schedule_play.proofs.AppendedRows.{all_entries, all_numbers, length-s
 use Rattle.schedule_play.proofs.AskedQueries.{EndsIn, check_of, in_order, is_refused, some_refused, with_fixes}
 
 -- a pair that keeps the relation is accepted
-accepted : (total key : ℕ) → total < 2 ^ 64 → checked total (times key total) key ≡ Ok total
-accepted total key small = rw (eq-eqb (times key total) (times key total) refl, lt-ltb total (2 ^ 64) small) refl
+accepted : (answer : ℤ) (key : ℕ) → size_of answer < 2 ^ 63 → checked (word_of answer) (times key (word_of answer)) key ≡ Ok answer
+accepted answer key small =
+    let same : signed_of (word_of answer) ≡ answer = signed-word answer (omega arith) in
+    let product = times key (word_of answer) in
+    rw (eq-eqb product product refl, same, lt-ltb (size_of answer) (2 ^ 63) small) refl
 
 rows_back : (master : Seed) (i : ℕ) (rows : List Row) → map (λ (entry : Row × Seed). entry.0) (seeded_rows master i rows) ≡ rows
 rows_back master i [] = refl
@@ -53,19 +57,19 @@ opened_plainly : (s : Setting) (q : ℕ) (query : Query) → slice_get s.queries
 opened_plainly s q query query_is = rw query_is refl
 
 module _ (known : PlainIsSmall) (w : Widths) (s : Setting) (legal : IsSetting w s) where
-  answer_small : (query : Query) → word_of (plain query s.rows) < 2 ^ 64
+  answer_small : (query : Query) → size_of (plain query s.rows) < 2 ^ 63
   answer_small query =
       let most : max 1 (length s.rows) ≤ 65536 = legal.fits.1 in
-      let small = known w query s.rows legal.held (omega arith) in omega (arith, small.1)
+      let small = known w query s.rows legal.held (omega arith) in omega (arith, small)
 
   -- what the check says of the plain pair
-  pub plain_verdict : (q : ℕ) (query : Query) → check_of s q query (plain_pair (all_entries s) (length s.rows) query (derive_of s.master 2 0 q)) ≡ Ok (word_of (plain query s.rows))
+  pub plain_verdict : (q : ℕ) (query : Query) → check_of s q query (plain_pair (all_entries s) (length s.rows) query (derive_of s.master 2 0 q)) ≡ Ok (plain query s.rows)
   plain_verdict q query =
       let key = key_from (weights_of (derive_of s.master 2 0 q) 1) query.count in
       ap (λ (rows : List Row). checked (word_of (plain query rows)) (times key (word_of (plain query rows))) key) (all_back s)
-      ∙ accepted (word_of (plain query s.rows)) key (answer_small query)
+      ∙ accepted (plain query s.rows) key (answer_small query)
 
-  verdict : (q : ℕ) (query : Query) → slice_get s.queries q ≡ Some query → check_of s q query (pairs_of s q) ≡ Ok (word_of (plain query s.rows))
+  verdict : (q : ℕ) (query : Query) → slice_get s.queries q ≡ Some query → check_of s q query (pairs_of s q) ≡ Ok (plain query s.rows)
   verdict q query query_is = ap (check_of s q query) (opened_plainly s q query query_is) ∙ plain_verdict q query
 
   all_plain : (rest : List Query) (q : ℕ) → ((k : ℕ) → slice_get s.queries (q + k) ≡ slice_get rest k)
@@ -77,9 +81,9 @@ module _ (known : PlainIsSmall) (w : Widths) (s : Setting) (legal : IsSetting w 
       λ k. let on : q + 1 + k ≡ q + suc k = omega arith in ap (slice_get s.queries) on ∙ rest_is (suc k) in
       let v = verdict q query (ap (slice_get s.queries) here ∙ rest_is 0) in
       let behind = all_plain rest (q + 1) others_at in (
-        ap (λ (c : Result ℕ Altered). checked_line (length s.rows) q query c ∷ asked_lines s (pairs_of s) (q + 1) rest) v
-            ∙ ap (λ (l : List Line). lines.Answer (Single q) (length s.rows) query.aggregate (word_of (plain query s.rows)) ∷ l) behind.0,
-        ap (λ (c : Result ℕ Altered). is_refused c || some_refused s (pairs_of s) (q + 1) rest) v ∙ behind.1,
+        ap (λ (c : Result ℤ Altered). checked_line (length s.rows) q query c ∷ asked_lines s (pairs_of s) (q + 1) rest) v
+            ∙ ap (λ (l : List Line). lines.Answer (Single q) (length s.rows) query.aggregate (plain query s.rows) ∷ l) behind.0,
+        ap (λ (c : Result ℤ Altered). is_refused c || some_refused s (pairs_of s) (q + 1) rest) v ∙ behind.1,
       )
 
 ends_plainly : (report report' : List Line) (altered : Bool) (end : Result Stage ℕ) → report ≡ report' → altered ≡ false → EndsIn report altered end → EndsPlainly report' end

@@ -1,5 +1,5 @@
 -- Queries that actor 0 asks one after another over all rows.
-use Rattle.std.proofs.Common.{◌≡◌, ◌∙◌, refl, sym, ap, subst, ℕ, suc, ◌+◌, ◌*◌, Bool, true, false, ◌||◌, Some, None, Result, Ok, Err, List, [], ◌∷◌, ◌++◌, length, slice_get, min, arith, append_assoc, append-nil}
+use Rattle.std.proofs.Common.{◌≡◌, ◌∙◌, refl, sym, ap, subst, ℕ, ℤ, suc, ◌+◌, ◌*◌, Bool, true, false, ◌||◌, Some, None, Result, Ok, Err, List, [], ◌∷◌, ◌++◌, length, slice_get, min, arith, append_assoc, append-nil}
 use Rattle.std.specs.Prelude.{⊤}
 use Rattle.std.proofs.lemmas.Bool.{le-ltb}
 use Rattle.std.specs.List.{flat_map, range_with_len}
@@ -28,12 +28,12 @@ use Rattle.schedule_play.proofs.Loops.{length-parts}
 use Rattle.schedule_play.proofs.RowNumbers.{prefix-numbers_below}
 
 -- whether the check refused a pair
-abbrev pub is_refused : Result ℕ Altered → Bool
+abbrev pub is_refused : Result ℤ Altered → Bool
 is_refused (Ok total) = false
 is_refused (Err pair) = true
 
 -- what the check says of query i, which opened this pair
-abbrev pub check_of : Setting → ℕ → Query → OpenedPair → Result ℕ Altered
+abbrev pub check_of : Setting → ℕ → Query → OpenedPair → Result ℤ Altered
 check_of s i query pair = checked pair.total pair.weighted (key_from (weights_of (derive_of s.master 2 0 i) 1) query.count)
 
 -- whether it refused the pair of a query
@@ -93,7 +93,7 @@ module _ (s : Setting) (opens : Opening) (order : List (Row × Seed)) (j : List 
       rw (whole, le-ltb n n (omega arith), least, append-nil lines, or_none altered) refl
 
 module _ (s : Setting) (order : List (Row × Seed)) (j : List ℕ) (n : ℕ) (others : List Actor) (rounds : List ℕ) where
-  answer_line : (lines : List Line) (altered : Bool) (q : ℕ) (query : Query) (verdict : Result ℕ Altered) → slice_get s.queries q ≡ Some query
+  answer_line : (lines : List Line) (altered : Bool) (q : ℕ) (query : Query) (verdict : Result ℤ Altered) → slice_get s.queries q ≡ Some query
       → let stage = with_fixes order j n others (Agreed n) (q ∷ rounds) lines altered in
       with_reply s Queries stage (steps.Answer 0 q) (stage.core, reply_of n verdict)
       ≡ with_fixes order j n others (Agreed n) ((q + 1) ∷ rounds) (lines ++ checked_line n q query verdict ∷ []) (altered || is_refused verdict)

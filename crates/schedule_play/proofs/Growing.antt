@@ -1,5 +1,5 @@
 -- The order grows by one with each row that is drawn.
-use Rattle.std.proofs.Common.{◌≡◌, ◌∙◌, refl, subst, ℕ, zero, suc, ◌+◌, Bool, true, false, cond, nat_lt, is_some, ◌||◌, min, List, [], ◌∷◌, ◌++◌, length, Option, Some, None, Result, Ok, Err, arith}
+use Rattle.std.proofs.Common.{◌≡◌, ◌∙◌, refl, subst, ℕ, ℤ, zero, suc, ◌+◌, Bool, true, false, cond, nat_lt, is_some, ◌||◌, min, List, [], ◌∷◌, ◌++◌, length, Option, Some, None, Result, Ok, Err, arith}
 use Rattle.std.proofs.lemmas.List.{length_push}
 use Rattle.std.proofs.lemmas.Option.{same_Some}
 use Rattle.prg_chacha.specs.declared.seed.Seed.{Seed}
@@ -66,7 +66,7 @@ fix_grows core number actor (Agreed n) = fixed_grows core number actor 0 (prefix
 fix_grows core number actor (First p) = fixed_grows core number actor 1 (prefix core.one) (Second p (prefix core.one))
 fix_grows core number actor (Second p q) = agreed_grows core number actor p q (prefix core.two)
 
-answered_grows : (core : Core) (n : ℕ) (r : Result ℕ Refused) → Grows core (core, reply_of n r)
+answered_grows : (core : Core) (n : ℕ) (r : Result ℤ Refused) → Grows core (core, reply_of n r)
 answered_grows core n (Ok total) = plus_none (length core.order)
 answered_grows core n (Err pair) = plus_none (length core.order)
 

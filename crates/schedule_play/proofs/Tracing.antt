@@ -1,9 +1,9 @@
 -- What the servers see of steps, one after another.
-use Rattle.std.proofs.Common.{◌≡◌, ◌∙◌, refl, sym, ap, subst, ℕ, ◌<◌, List, [], ◌∷◌, ◌++◌, append-nil, append_assoc, length, Option, Some, None, IsSomeAnd, arith}
+use Rattle.std.proofs.Common.{◌≡◌, ◌∙◌, refl, sym, ap, subst, ℕ, ◌<◌, List, [], ◌∷◌, ◌++◌, append_assoc, length, Option, Some, None, IsSomeAnd, arith}
 use Rattle.table_schema.specs.declared.widths.Widths.{Widths}
 use Rattle.visit_trace.specs.Expected.{trace_of}
-use Rattle.visit_trace.specs.Growing.{grew_both, prefix_begun, prefix_cut, seen_then, then_at}
-use Rattle.visit_trace.specs.Seen.{AllSeen, Grew, GrewPrefix, Seen, alike, nothing}
+use Rattle.visit_trace.specs.Growing.{grew_both, prefix_begun, prefix_cut, seen_joins, seen_then, then_nothing}
+use Rattle.visit_trace.specs.Seen.{AllSeen, Grew, GrewPrefix, alike}
 use Rattle.visit_trace.specs.declared.sizes.Sizes.{Sizes}
 use Rattle.waldo_core.specs.Core.{Core}
 use Rattle.waldo_core.specs.declared.events.Event.{Event}
@@ -21,24 +21,9 @@ use Rattle.schedule_play.proofs.Alike.{AreAlike, AlikeAfter, alike_itself, event
 
 -- ---- traces one after another
 
-then_joins : (p q r : Seen) → then_at (then_at p q) r ≡ then_at p (then_at q r)
-then_joins p q r =
-    ap (λ v. record { visits = v; lengths = (p.lengths ++ q.lengths) ++ r.lengths }) (append_assoc p.visits q.visits r.visits)
-    ∙ ap (λ (l : List ℕ). record { visits = p.visits ++ (q.visits ++ r.visits); lengths = l }) (append_assoc p.lengths q.lengths r.lengths)
-
-seen_joins : (p q r : AllSeen) → seen_then (seen_then p q) r ≡ seen_then p (seen_then q r)
-seen_joins p q r =
-    ap (λ (s : Seen). record { zero = s; one = then_at (then_at p.one q.one) r.one; two = then_at (then_at p.two q.two) r.two }) (then_joins p.zero q.zero r.zero)
-    ∙ ap (λ (s : Seen). record { zero = then_at p.zero (then_at q.zero r.zero); one = s; two = then_at (then_at p.two q.two) r.two }) (then_joins p.one q.one r.one)
-    ∙ ap (λ (s : Seen). record { zero = then_at p.zero (then_at q.zero r.zero); one = then_at p.one (then_at q.one r.one); two = s }) (then_joins p.two q.two r.two)
-
 pub traces_both : (xs ys : List Sizes) → traces_of (xs ++ ys) ≡ seen_then (traces_of xs) (traces_of ys)
 traces_both [] ys = refl
 traces_both (z ∷ zs) ys = ap (seen_then (trace_of z)) (traces_both zs ys) ∙ sym (seen_joins (trace_of z) (traces_of zs) (traces_of ys))
-
-then_nothing : (s : Seen) → then_at s nothing ≡ s
-then_nothing s =
-    ap (λ v. record { visits = v; lengths = s.lengths ++ [] }) (append-nil s.visits) ∙ ap (λ (l : List ℕ). record { visits = s.visits; lengths = l }) (append-nil s.lengths)
 
 -- a single trace
 pub traces_single : (z : Sizes) → traces_of (z ∷ []) ≡ trace_of z

@@ -1,5 +1,5 @@
 -- What the definitions say together.
-use Rattle.std.specs.Prelude.{ℕ, ◌≡◌, ◌+◌, ◌*◌, ⊤, false, Some, Result, Ok, Err, List, [], ◌∷◌, length, map, slice_get}
+use Rattle.std.specs.Prelude.{ℕ, ℤ, ◌≡◌, ◌+◌, ◌*◌, ⊤, false, Some, Result, Ok, Err, List, [], ◌∷◌, length, map, slice_get}
 use Rattle.query_plan.specs.Query.{shaped}
 use Rattle.query_plan.specs.Seeds.{weights_of}
 use Rattle.query_plan.specs.Views.{key_from}
@@ -10,7 +10,6 @@ use Rattle.report_lines.specs.declared.lines.Who.TheVariants.{Single}
 use Rattle.server_rounds.specs.declared.opened.OpenedPair.{OpenedPair}
 use Rattle.prg_chacha.specs.Prg.{derive_of}
 use Rattle.table_schema.specs.declared.widths.Widths.{Widths}
-use Rattle.ring128.specs.Signed.{word_of}
 use Rattle.transcript.specs.Plain.{plain}
 use Rattle.visit_trace.specs.Seen.{AllSeen, Grew}
 use Rattle.wire_line.specs.Messages.{IsHonest}
@@ -25,7 +24,7 @@ use Rattle.schedule_play.specs.Tasks.{IsSetting, Setting, Task, asking}
 use Rattle.schedule_play.specs.Traces.{asked_sizes, sizes_in, traces_of}
 
 -- the line of query i over n rows, by what the check says
-abbrev pub checked_line : ℕ → ℕ → Query → Result ℕ Altered → Line
+abbrev pub checked_line : ℕ → ℕ → Query → Result ℤ Altered → Line
 checked_line n i query (Ok total) = lines.Answer (Single i) n query.aggregate total
 checked_line n i query (Err pair) = lines.Altered (Single i) n pair.total pair.weighted
 
@@ -75,7 +74,7 @@ abbrev pub AskedHonestly : Type 0
 AskedHonestly = (w : Widths) (s : Setting) (history : List Done) → IsSetting w s → HasHistory w (asking s) history
     → ArePlain s Queries first_stage history
     → (i : ℕ) (query : Query) → slice_get s.queries i ≡ Some query → IsHonest (messages_of_query s history i)
-    → HasLine i (lines.Answer (Single i) (length s.rows) query.aggregate (word_of (plain query s.rows)))
+    → HasLine i (lines.Answer (Single i) (length s.rows) query.aggregate (plain query s.rows))
     (played (opened_in history) (asking s))
 
 -- Where each message was received as it was sent, and what such answers opened is plain, steps come to what they come to plainly.

@@ -1,7 +1,6 @@
 -- What steps come to where nothing is altered.
 use Rattle.std.specs.Prelude.{ℕ, ◌+◌, ⊤, IfSome, Option, Some, None, List, [], ◌∷◌, length, slice_get}
 use Rattle.server_rounds.specs.declared.opened.OpenedPair.{OpenedPair}
-use Rattle.ring128.specs.Signed.{word_of}
 use Rattle.prg_chacha.specs.declared.seed.Seed.{Seed}
 use Rattle.query_plan.specs.declared.query.Query.{Query}
 use Rattle.report_lines.specs.declared.lines.Line.{Line}
@@ -50,4 +49,4 @@ ArePlain s style stage (d ∷ ds) =
 -- the lines of queries, the first of which has this number, each asked plainly over all rows
 abbrev pub plain_lines : List Row → ℕ → List Query → List Line
 plain_lines rows i [] = []
-plain_lines rows i (q ∷ qs) = lines.Answer (Single i) (length rows) q.aggregate (word_of (plain q rows)) ∷ plain_lines rows (i + 1) qs
+plain_lines rows i (q ∷ qs) = lines.Answer (Single i) (length rows) q.aggregate (plain q rows) ∷ plain_lines rows (i + 1) qs

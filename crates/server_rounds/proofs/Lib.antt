@@ -10,3 +10,4 @@ pub mod Adding
 pub mod Visiting
 pub mod Noting
 pub mod Zeroed
+pub mod Stretched

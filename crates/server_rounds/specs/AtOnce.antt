@@ -1,16 +1,16 @@
 -- What a server's part of a step needs and gives, each in one fact.
-use Rattle.std.specs.Prelude.{ℕ, ◌≡◌, ◌<◌, List, [], ◌∷◌, length, map, Result, Ok, IfOk}
+use Rattle.std.specs.Prelude.{ℕ, ◌≡◌, ◌<◌, List, length, map, Result, Ok, IfOk}
 use Rattle.ring128.specs.declared.memory.Memory.{Memory}
 use Rattle.scan_chunks.specs.Shelf.{Held}
 use Rattle.scan_chunks.specs.declared.visit.Visit.{Visit}
-use Rattle.query_plan.specs.KeyMessages.{KeysRead, view_from}
+use Rattle.query_plan.specs.KeyMessages.{KeysRead}
 use Rattle.query_plan.specs.Views.{View}
-use Rattle.transcript.specs.Setup.{Sizes, column_of, count_of}
+use Rattle.transcript.specs.Setup.{Sizes, count_of}
 use Rattle.transcript.specs.Formulas.{opening_words}
 use Rattle.server_rounds.specs.declared.carry.Trio.{Trio}
 use Rattle.server_rounds.specs.Groups.{Pairs, AreLong, first_of, second_of}
 use Rattle.server_rounds.specs.Plans.{HasTables}
-use Rattle.server_rounds.specs.Rounds.{bit_numbers, locals_at}
+use Rattle.server_rounds.specs.Rounds.{locals_at}
 use Rattle.server_rounds.specs.Shelves.{AreShelves, pieces_of}
 use Rattle.server_rounds.specs.Visits.{AreVisited, opened_columns}
 
@@ -20,14 +20,6 @@ pub record CanScan {S : Type 0} (held : S → Held) (z : Sizes) (keys : KeysRead
   pub there : j < count_of z
   pub tables : HasTables z keys
   pub rows : AreShelves z.widths z.rows (map held shelves)
-
--- the shelves before and after, and the numbers of the bits
-pub record GivesNumbers {S : Type 0} (held : S → Held) (visited : S → List Visit) (z : Sizes) (keys : KeysRead) (run j : ℕ)
-    (old new : List S) (result : Result (List ℕ) Memory) : Type 0 where
-  pub same : map held new ≡ map held old
-  pub long : IfOk result (λ w. length w ≡ z.rows)
-  pub numbers : IfOk result (λ w. w ≡ bit_numbers z run (view_from keys) (pieces_of (map held old)) j)
-  pub visits : AreVisited held visited (column_of z j ∷ []) old new result
 
 -- how many pairs a server holds, where all hold equally many
 abbrev pub count_in : Pairs → ℕ

@@ -3,6 +3,7 @@ pub mod Groups
 pub mod OneServer
 pub mod Rounds
 pub mod Shelves
+pub mod Stretches
 pub mod Plans
 pub mod Runs
 pub mod Visits

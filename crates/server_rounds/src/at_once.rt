@@ -1,15 +1,14 @@
 //! The words of the three servers in a step, made side by side.
 ghost use denote.Param.Send.{IsSend, IsSync};
 ghost use Rattle.std.specs.Prelude.{◌≡◌, ◌<◌, ◌≤◌, map, length, IfOk};
-ghost use Rattle.transcript.specs.Setup.{count_of};
-ghost use Rattle.server_rounds.specs.AtOnce.{AreAll, CanMultiply, CanOpen, CanScan, GivesLocals, GivesNumbers, GivesOpening};
-ghost use Rattle.server_rounds.specs.Plans.{HasTables, HaveTables, views_of};
+ghost use Rattle.server_rounds.specs.AtOnce.{AreAll, CanMultiply, CanOpen, GivesLocals, GivesOpening};
+ghost use Rattle.server_rounds.specs.Plans.{views_of};
 ghost use Rattle.server_rounds.specs.Shelves.{AreShelves, pieces_of};
 
 use crate::carry::Trio;
 use crate::held::Held;
 use crate::keys::ThreeKeys;
-use crate::part::{locals_part, numbers_part, opening_part};
+use crate::part::{locals_part, opening_part};
 use crate::plan::Plan;
 use ring128::{Memory, Words};
 use scan_chunks::Shelf;
@@ -34,50 +33,6 @@ pub fn join_three<
         ensures { G.step g.entry.now result.0 g.exit.now × H.step h.entry.now result.1 h.exit.now }
     { join_mut(rt, g, h) };
     join_mut(rt, f, &mut others)
-}
-
-/// The numbers of the bits of predicate j at the servers: side by side where each has several shelves, else one after another.
-pub(crate) fn numbers_at_once<R: Threads + Sync, S: Shelf + Send>(
-    rt: &R,
-    alloc: Global,
-    plan: &Plan,
-    keys: &ThreeKeys,
-    run: u8,
-    j: u8,
-    zero: &mut Vec<S>,
-    one: &mut Vec<S>,
-    two: &mut Vec<S>,
-) -> (
-    Result<Words, Memory>,
-    (Result<Words, Memory>, Result<Words, Memory>),
-)
-    requires zero { CanScan S.held plan.now keys.now.zero run j zero.old.items }
-    requires one { CanScan S.held plan.now keys.now.one run j one.old.items }
-    requires two { CanScan S.held plan.now keys.now.two run j two.old.items }
-    ensures zero { GivesNumbers S.held S.visited plan.now keys.now.zero run j zero.old.items zero.new.items result.0 }
-    ensures one { GivesNumbers S.held S.visited plan.now keys.now.one run j one.old.items one.new.items result.1.0 }
-    ensures two { GivesNumbers S.held S.visited plan.now keys.now.two run j two.old.items two.new.items result.1.1 }
-{
-    if zero.len() < 2 {
-        let first = numbers_part(rt, alloc, plan, &keys.zero, run, j, zero);
-        let second = numbers_part(rt, alloc, plan, &keys.one, run, j, one);
-        let third = numbers_part(rt, alloc, plan, &keys.two, run, j, two);
-        return (first, (second, third));
-    }
-    let (k0, k1, k2) = (&keys.zero, &keys.one, &keys.two);
-    let mut first = || -> Result<Words, Memory>
-        requires { IsSync R.row × IsSend S.row × CanScan S.held plan.now k0.now run j zero.now.items }
-        ensures { GivesNumbers S.held S.visited plan.entry.now k0.entry.now run j zero.entry.now.items zero.exit.now.items result }
-    { numbers_part(rt, alloc, plan, k0, run, j, zero) };
-    let mut second = || -> Result<Words, Memory>
-        requires { IsSync R.row × IsSend S.row × CanScan S.held plan.now k1.now run j one.now.items }
-        ensures { GivesNumbers S.held S.visited plan.entry.now k1.entry.now run j one.entry.now.items one.exit.now.items result }
-    { numbers_part(rt, alloc, plan, k1, run, j, one) };
-    let mut third = || -> Result<Words, Memory>
-        requires { IsSync R.row × IsSend S.row × CanScan S.held plan.now k2.now run j two.now.items }
-        ensures { GivesNumbers S.held S.visited plan.entry.now k2.entry.now run j two.entry.now.items two.exit.now.items result }
-    { numbers_part(rt, alloc, plan, k2, run, j, two) };
-    join_three(rt, &mut first, &mut second, &mut third)
 }
 
 /// The servers' parts of the product of a chain and bits, side by side where this is wanted, else one after another.

@@ -34,6 +34,7 @@ mod rounds;
 mod run;
 mod servers;
 mod shelves;
+mod stretches;
 mod sums;
 mod values;
 mod way;

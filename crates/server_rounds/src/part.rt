@@ -14,14 +14,13 @@ ghost use Rattle.server_rounds.specs.Visits.{AreVisited, opened_columns};
 use crate::held::Held;
 use crate::keys::ThreeKeys;
 use crate::plan::Plan;
-use crate::shelves::{scan_rows, sum_values};
+use crate::shelves::sum_values;
 use query_plan::ServerKeys;
 use replicated_share::PairList;
-use ring128::{Memory, Party, Words, add};
-use scan_chunks::{Shelf, Tables};
+use ring128::{Memory, Words, add};
+use scan_chunks::Shelf;
 use share_product::locals;
 use std::alloc::Global;
-use std::thread::Threads;
 use table_schema::Aggregate;
 use zero_share::ZeroSeeds;
 
@@ -42,33 +41,6 @@ pub(crate) fn seeds_of(keys: &ServerKeys) -> ZeroSeeds
 {
     let (own, next) = keys.zeros();
     ZeroSeeds { own, next }
-}
-
-/// A server's numbers of the bits of predicate j.
-pub(crate) fn numbers_part<R: Threads + Sync, S: Shelf + Send>(
-    rt: &R,
-    alloc: Global,
-    plan: &Plan,
-    keys: &ServerKeys,
-    run: u8,
-    j: u8,
-    shelves: &mut Vec<S>,
-) -> Result<Words, Memory>
-    requires run { run < 2 }
-    requires j { j < count_of plan.now }
-    requires keys { HasTables plan.now keys.now }
-    requires shelves { AreShelves plan.now.widths plan.now.rows (map S.held shelves.old.items) }
-    ensures held { map S.held shelves.new.items ≡ map S.held shelves.old.items }
-    ensures long { IfOk result (λ w. length w ≡ plan.now.rows) }
-    ensures numbers { IfOk result (λ w. w ≡ bit_numbers plan.now run (view_from keys.now) (pieces_of (map S.held shelves.old.items)) j) }
-    ensures visits { AreVisited S.held S.visited (column_of plan.now j ∷ []) shelves.old.items shelves.new.items result }
-{
-    let column = plan.column(j);
-    let zero = keys.table(alloc, run, j, Party::Zero)?;
-    let one = keys.table(alloc, run, j, Party::One)?;
-    let tables = Tables { zero, one };
-    let numbers = scan_rows(rt, alloc, plan, shelves, column, &tables)?;
-    Ok(numbers)
 }
 
 /// A server's parts of the product of a chain and bits.

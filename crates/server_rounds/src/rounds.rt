@@ -14,13 +14,14 @@ ghost use Rattle.visit_trace.specs.Seen.{GrewBy};
 ghost use Rattle.visit_trace.specs.Growing.{seen_then};
 ghost use Rattle.visit_trace.specs.Expected.{bits_part, opening_part, product_part};
 
-use crate::at_once::{all_three, locals_at_once, numbers_at_once, openings_at_once};
+use crate::at_once::{all_three, locals_at_once, openings_at_once};
 use crate::carry::{Trio, carry_three};
 use crate::held::{Held, reshare};
 use crate::keys::ThreeKeys;
 use crate::noted::{note_last, note_values};
 use crate::plan::Plan;
 use crate::servers::Servers;
+use crate::stretches::bits_at_once;
 use crate::way::Way;
 use crate::zeros::with_three_zeros;
 use ring128::{Memory, add};
@@ -60,7 +61,7 @@ pub(crate) fn bits_round<R: Threads + Sync, S: Shelf + Send, W: Wire>(
         × IfOk result (λ held. AreReshared held ms) }
     ensures trace { GrewBy trace.old trace.new (bits_part plan.now (column_of plan.now j)) result }
 {
-    let (zero, others) = numbers_at_once(
+    let words = bits_at_once(
         rt,
         alloc,
         plan,
@@ -70,11 +71,7 @@ pub(crate) fn bits_round<R: Threads + Sync, S: Shelf + Send, W: Wire>(
         &mut shelves.zero,
         &mut shelves.one,
         &mut shelves.two,
-    );
-    let numbers = all_three(zero, others)?;
-    plan.rows();
-    let start = plan.bits_counter(run, j);
-    let words = with_three_zeros(rt, keys, start, shelves.zero.len(), numbers);
+    )?;
     let held = reshare_noted(alloc, shelves, wire, trace, words)?;
     Ok(held)
 }

@@ -13,9 +13,8 @@ use crate::plan::Plan;
 use crate::values::inner_of_values;
 use replicated_share::PairList;
 use ring128::{Memory, Words};
-use scan_chunks::{Shelf, Tables, read_column, scan_many};
+use scan_chunks::{Shelf, read_column};
 use std::alloc::Global;
-use std::thread::Threads;
 
 /// How many rows shelves have together. Each says of itself that its columns are as long as its rows are wide.
 pub fn count_rows<S: Shelf>(shelves: &[S]) -> u64
@@ -30,8 +29,8 @@ pub fn count_rows<S: Shelf>(shelves: &[S]) -> u64
     count
 }
 
-// How many rows a server's shelves have, which is what the plan says.
-fn rows_together<S: Shelf>(plan: &Plan, shelves: &[S]) -> u64
+/// How many rows a server's shelves have, which is what the plan says.
+pub(crate) fn rows_together<S: Shelf>(plan: &Plan, shelves: &[S]) -> u64
     requires { AreShelves plan.now.widths plan.now.rows (map S.held shelves.now) }
     ensures count { result ≡ plan.now.rows }
     ensures few { result ≤ 65536 }
@@ -39,30 +38,6 @@ fn rows_together<S: Shelf>(plan: &Plan, shelves: &[S]) -> u64
 {
     plan.rows();
     count_rows(shelves)
-}
-
-/// The number of each row of a server at a column: the firsts of its cells with one table, their seconds with the other.
-pub(crate) fn scan_rows<R: Threads + Sync, S: Shelf + Send>(
-    rt: &R,
-    alloc: Global,
-    plan: &Plan,
-    shelves: &mut Vec<S>,
-    column: u8,
-    tables: &Tables,
-) -> Result<Words, Memory>
-    requires shelves { AreShelves plan.now.widths plan.now.rows (map S.held shelves.old.items) }
-    requires column { column < plan.now.widths.columns }
-    requires zero { length tables.now.zero ≡ width_of plan.now.widths column }
-    requires one { length tables.now.one ≡ width_of plan.now.widths column }
-    ensures held { map S.held shelves.new.items ≡ map S.held shelves.old.items }
-    ensures numbers { let pieces = pieces_of (map S.held shelves.old.items) in
-        IfOk result (λ w. w ≡ listed plan.now.rows
-        (row_number tables.now.zero tables.now.one (width_of plan.now.widths column) (pieces.first column) (pieces.second column))) }
-    ensures visits { AreVisited S.held S.visited (column ∷ []) shelves.old.items shelves.new.items result }
-{
-    let _rows = rows_together(plan, shelves.as_slice());
-    let numbers = scan_many(rt, alloc, shelves.as_mut_slice(), column, tables)?;
-    Ok(numbers)
 }
 
 /// The pairs of a server's rows at a column, row after row; the value's column is the last one.

@@ -7,6 +7,7 @@ ghost use Rattle.server_rounds.specs.Zeros.{AreZeroed, BothZeroed, CanZero, zero
 use crate::carry::Trio;
 use crate::keys::ThreeKeys;
 use crate::part::seeds_of;
+use crate::ready::Ready;
 use ring128::Words;
 use std::thread::{Threads, join_mut};
 use zero_share::add_parts_of_three;
@@ -45,6 +46,26 @@ pub(crate) fn with_three_zeros<R: Threads + Sync>(
         zero: Words::from_vec(zero),
         one: Words::from_vec(one),
         two: Words::from_vec(two),
+    }
+}
+
+impl Ready {
+    /// The numbers of the three servers, each with its part of zero, whose counters begin at `start`: all three are of one length. The
+    /// rows are cut into `parts` stretches, each in a thread of its own where one can be made.
+    pub fn with_three_zeros<R: Threads + Sync>(
+        &self,
+        rt: &R,
+        start: u64,
+        parts: usize,
+        numbers: Trio,
+    ) -> Trio
+        requires { CanZero start numbers.zero numbers.one numbers.two }
+        ensures long { AsLong result.zero result.one result.two numbers.zero numbers.one numbers.two }
+        ensures zero { result.zero ≡ zeroed self.now.keys.zero start numbers.zero }
+        ensures one { result.one ≡ zeroed self.now.keys.one start numbers.one }
+        ensures two { result.two ≡ zeroed self.now.keys.two start numbers.two }
+    {
+        with_three_zeros(rt, &self.keys, start, parts, numbers)
     }
 }
 

@@ -28,6 +28,35 @@ fn a_code_is_one_at_each_bucket(rt: HostRuntime) -> Result<(), Fail> {
     assert!(rt; ONE_COLUMN.holds(&one));
     let cells = code(rt.alloc(), &ONE_COLUMN, &one).ok().ok_or("memory")?;
     assert_eq!(rt; cells.as_slice(), [0, 0, 0, 1, 10].as_slice());
+    // A value below zero is its size taken from 2^128.
+    let below = row(1, [0; 6], -5);
+    assert!(rt; ONE_COLUMN.holds(&below));
+    let cells = code(rt.alloc(), &ONE_COLUMN, &below).ok().ok_or("memory")?;
+    assert_eq!(rt;
+        cells.as_slice(),
+        [
+            1,
+            0,
+            0,
+            0,
+            340_282_366_920_938_463_463_374_607_431_768_211_451
+        ]
+        .as_slice()
+    );
+    let lowest = row(1, [1, 0, 0, 0, 0, 0], -4_294_967_295);
+    assert!(rt; ONE_COLUMN.holds(&lowest));
+    let cells = code(rt.alloc(), &ONE_COLUMN, &lowest).ok().ok_or("memory")?;
+    assert_eq!(rt;
+        cells.as_slice(),
+        [
+            0,
+            1,
+            0,
+            0,
+            340_282_366_920_938_463_463_374_607_427_473_244_161
+        ]
+        .as_slice()
+    );
     let two = row(2, [0, 2, 0, 0, 0, 0], 4_294_967_295);
     assert!(rt; TWO_COLUMNS.holds(&two));
     let cells = code(rt.alloc(), &TWO_COLUMNS, &two).ok().ok_or("memory")?;

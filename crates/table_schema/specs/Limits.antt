@@ -1,9 +1,9 @@
 -- The limits of a table.
-use Rattle.std.specs.Prelude.{◌≡◌, ℕ, ◌<◌, ◌≤◌, List, get_or, ℤ, pos, ◌≤ℤ◌}
+use Rattle.std.specs.Prelude.{◌≡◌, ℕ, ◌<◌, ◌≤◌, List, get_or, ℤ, pos, negsuc, ◌≤ℤ◌}
 
 -- the most columns of a table
 abbrev pub most_columns : ℕ
-most_columns = 4
+most_columns = 6
 
 -- the most rows of a table
 abbrev pub most_rows : ℕ
@@ -13,9 +13,9 @@ most_rows = 65536
 abbrev pub most_cells : ℕ
 most_cells = 4194304
 
--- a value that a row may have
+-- a value that a row may have: of a size below 2 ^ 32
 abbrev pub IsValue : ℤ → Type 0
-IsValue value = (pos 0 ≤ℤ value) × (value ≤ℤ pos 4294967295)
+IsValue value = (negsuc 4294967294 ≤ℤ value) × (value ≤ℤ pos 4294967295)
 
 -- the widths of `columns` columns: 1 to 8 bits for each, and 0 past them
 abbrev pub AreWidths : ℕ → List ℕ → Type 0

@@ -1,4 +1,4 @@
-/// A row: the bucket of each column in order, with entries past the columns 0, and its value.
+/// A row: the bucket of each column in order, with entries past the columns 0, and its value, which may be below zero.
 #[derive(Clone, Copy, Debug, PartialEq, Eq)]
 pub struct Row {
     pub columns: u8,

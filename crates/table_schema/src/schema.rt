@@ -7,7 +7,7 @@ use crate::widths::Widths;
 use std::marker::Model;
 
 /// The most columns of a table.
-pub(crate) const MOST_COLUMNS: usize = 4;
+pub(crate) const MOST_COLUMNS: usize = 6;
 
 /// A column: its name, how many bits its bucket has (1 to 8), the raw number at which bucket 0 starts, and
 /// how many raw numbers a bucket holds (at least 1).
@@ -19,7 +19,7 @@ pub struct Column {
     pub step: u64,
 }
 
-/// The columns of a table, 1 to 4 of them, seen as their list.
+/// The columns of a table, 1 to 6 of them, seen as their list.
 #[derive(Debug, Drop)]
 pub struct Schema {
     pub(crate) columns: Vec<Column>,

@@ -62,11 +62,11 @@ impl Widths {
     }
 
     /// Whether the row is one of these widths: it has as many columns, each bucket is below 2^bits, with 0
-    /// past the columns, and its value is within the limits.
+    /// past the columns, and its value is from -4,294,967,295 to 4,294,967,295.
     pub fn holds(&self, row: &Row) -> bool
         ensures { IsTrue result ↔ Holds self.now row.now }
     {
-        if row.columns != self.columns || row.value < 0 || row.value > 4_294_967_295 {
+        if row.columns != self.columns || row.value < -4_294_967_295 || row.value > 4_294_967_295 {
             return false;
         }
         for i in 0..6 {

@@ -104,7 +104,11 @@ fn faults(rt: HostRuntime) -> Result<(), Fail> {
         (b"host,value\n-1,10\n".as_slice(), 9, bad(1, RowWhy::Number)),
         (b"host,value\n,10\n".as_slice(), 9, bad(1, RowWhy::Number)),
         (b"host,value\n1, 10\n".as_slice(), 9, bad(1, RowWhy::Number)),
-        (b"host,value\n1,-5\n".as_slice(), 9, bad(1, RowWhy::Number)),
+        (
+            b"host,value\n1,1\n-1,-1\n".as_slice(),
+            9,
+            bad(2, RowWhy::Number),
+        ),
         (
             b"host,value\n1,18446744073709551616\n".as_slice(),
             9,
@@ -144,6 +148,52 @@ fn written(rt: &HostRuntime, bytes: &[u8]) -> Result<String, Fail> {
     Ok(text)
 }
 
+// Why the row of a value is refused, if it is.
+fn value_fault(rt: &HostRuntime, field: &[u8]) -> Result<Option<RowWhy>, Fail> {
+    let schema = read_schema(rt.alloc(), "host:2").ok().ok_or("a schema")?;
+    let mut bytes = Vec::from_slice(rt.alloc(), b"host,value\n0,")?;
+    bytes.extend_from_slice(field)?;
+    bytes.push(b'\n')?;
+    Ok(match read_rows(rt.alloc(), &schema, 9, &bytes) {
+        Err(RowFault::BadRecord { why, .. }) => Some(why),
+        _ => None,
+    })
+}
+
+// The last field: an optional `-` and then a number, of a size up to 4,294,967,295.
+#[test]
+fn values(rt: HostRuntime) -> Result<(), Fail> {
+    let table = [
+        (b"4294967295".as_slice(), None),
+        (b"-4294967295".as_slice(), None),
+        (b"-00000000004294967295".as_slice(), None),
+        (b"-0".as_slice(), None),
+        (b"4294967296".as_slice(), Some(RowWhy::Value)),
+        (b"-4294967296".as_slice(), Some(RowWhy::Value)),
+        (b"-18446744073709551615".as_slice(), Some(RowWhy::Value)),
+        (b"-18446744073709551616".as_slice(), Some(RowWhy::Number)),
+        (b"-000000000000000000001".as_slice(), Some(RowWhy::Number)),
+        (b"".as_slice(), Some(RowWhy::Number)),
+        (b"-".as_slice(), Some(RowWhy::Number)),
+        (b"--1".as_slice(), Some(RowWhy::Number)),
+        (b"+1".as_slice(), Some(RowWhy::Number)),
+        (b"-+1".as_slice(), Some(RowWhy::Number)),
+        (b"- 1".as_slice(), Some(RowWhy::Number)),
+        (b" -1".as_slice(), Some(RowWhy::Number)),
+        (b"-1 ".as_slice(), Some(RowWhy::Number)),
+        (b"1-".as_slice(), Some(RowWhy::Number)),
+        (b"-1.5".as_slice(), Some(RowWhy::Number)),
+        (b"\xe2\x88\x921".as_slice(), Some(RowWhy::Number)),
+        (b"-\xff".as_slice(), Some(RowWhy::Text)),
+        (b"\xff-1".as_slice(), Some(RowWhy::Text)),
+    ];
+    for (field, wanted) in table {
+        let had = value_fault(&rt, field)?;
+        assert!(rt; had == wanted, "of {field:?}: {had:?}");
+    }
+    Ok(())
+}
+
 // What `csv` makes of ends of lines, empty lines, quotes and a byte order mark.
 #[test]
 fn records(rt: HostRuntime) -> Result<(), Fail> {
@@ -170,6 +220,10 @@ fn records(rt: HostRuntime) -> Result<(), Fail> {
         (
             b"host,value\n003,00000000000000000010\n".as_slice(),
             "3:10 ",
+        ),
+        (
+            b"host,value\n3,-10\n1,\"-4294967295\"\n0,-0\n2,4294967295\n".as_slice(),
+            "3:-10 1:-4294967295 0:0 2:4294967295 ",
         ),
     ];
     for (bytes, rows) in table {

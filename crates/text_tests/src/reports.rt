@@ -29,6 +29,34 @@ fn texts(rt: HostRuntime) -> Result<(), Fail> {
             },
             "end 4 rows 0 sum 15\n",
         ),
+        // The totals of both ends that the check accepts.
+        (
+            Line::Answer {
+                who: single,
+                rows: 3,
+                aggregate: sum,
+                total: -9223372036854775807,
+            },
+            "ask 1 rows 3 sum -9223372036854775807\n",
+        ),
+        (
+            Line::Answer {
+                who: round,
+                rows: 3,
+                aggregate: sum,
+                total: 9223372036854775807,
+            },
+            "ask 2.3 rows 3 sum 9223372036854775807\n",
+        ),
+        (
+            Line::Answer {
+                who: end,
+                rows: 1,
+                aggregate: sum,
+                total: -1,
+            },
+            "end 4 rows 1 sum -1\n",
+        ),
         (
             Line::Altered {
                 who: round,
@@ -133,6 +161,15 @@ fn texts(rt: HostRuntime) -> Result<(), Fail> {
             "tree 0 places 1 to 7 count 2 nodes 4\n",
         ),
         (
+            Line::Tree {
+                low: 0,
+                high: 65536,
+                total: -1,
+                nodes: 1,
+            },
+            "tree 0 places 0 to 65536 count -1 nodes 1\n",
+        ),
+        (
             Line::TreeAltered {
                 total: 3,
                 weighted: 22373722559603869626,
@@ -158,6 +195,16 @@ fn texts(rt: HostRuntime) -> Result<(), Fail> {
                 total: 0,
             },
             "group 15 bucket 255 rows 65536 count 0\n",
+        ),
+        (
+            Line::Group {
+                index: 1,
+                bucket: 0,
+                rows: 4,
+                aggregate: sum,
+                total: -9223372036854775807,
+            },
+            "group 1 bucket 0 rows 4 sum -9223372036854775807\n",
         ),
         (
             Line::GroupAltered {

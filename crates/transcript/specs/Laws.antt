@@ -1,12 +1,12 @@
 -- What a query opens where nothing was altered.
-use Rattle.std.specs.Prelude.{ℕ, pos, ◌≡◌, ◌<◌, ◌≤◌, ◌^◌, ◌-◌, cond, List, length, map, All}
+use Rattle.std.specs.Prelude.{ℕ, ◌≡◌, ◌<◌, ◌≤◌, ◌^◌, ◌-◌, cond, List, length, map, All}
 use Rattle.scan_chunks.specs.Pieces.{Pieces}
 use Rattle.ring128.specs.Ring.{times}
 use Rattle.wire_line.specs.declared.message.Message.{Message}
 use Rattle.table_schema.specs.declared.rows.Row.{Row}
 use Rattle.table_schema.specs.declared.widths.Widths.{Widths}
 use Rattle.table_schema.specs.Widths.{Holds}
-use Rattle.ring128.specs.Signed.{word_of}
+use Rattle.ring128.specs.Signed.{word_of, size_of}
 use Rattle.query_plan.specs.declared.query.Query.{Query}
 use Rattle.query_plan.specs.KeyMessages.{message_length}
 use Rattle.query_plan.specs.Query.{shaped, Suits}
@@ -59,11 +59,10 @@ PairOpens =
     → let answer = word_of (plain query rows) in
     (opened_of s ms 0 ≡ answer) × (opened_of s ms 1 ≡ times (key_from (weights 1) (query.count)) answer)
 
--- a plain answer is a small natural number, and so its own word
+-- a plain answer is small
 abbrev pub PlainIsSmall : Type 0
 PlainIsSmall =
-    (w : Widths) (query : Query) (rows : List Row) → All (Holds w) rows → length rows ≤ 65536
-    → let answer = plain query rows in (answer ≡ pos (word_of answer)) × (word_of answer < 2 ^ 48)
+    (w : Widths) (query : Query) (rows : List Row) → All (Holds w) rows → length rows ≤ 65536 → size_of (plain query rows) < 2 ^ 48
 
 -- how many words a message of a step has
 abbrev pub step_length : Sizes → Step → ℕ

@@ -31,7 +31,7 @@ pub fn shifted_open()
     ensures { ShiftedOpen }
 {}
 
-/// The plain answer of at most 65,536 rows that the widths hold is a natural number below 2^48.
+/// The plain answer of at most 65,536 rows that the widths hold has a size below 2^48.
 pub fn plain_is_small()
     ensures { PlainIsSmall }
 {}

@@ -14,6 +14,26 @@ then_at p q = record { visits = p.visits ++ q.visits; lengths = p.lengths ++ q.l
 abbrev pub seen_then : AllSeen → AllSeen → AllSeen
 seen_then p q = record { zero = then_at p.zero q.zero; one = then_at p.one q.one; two = then_at p.two q.two }
 
+-- three parts, and a part with nothing after it
+then_joins : (p q r : Seen) → then_at (then_at p q) r ≡ then_at p (then_at q r)
+then_joins p q r =
+    ap (λ v. record { visits = v; lengths = (p.lengths ++ q.lengths) ++ r.lengths }) (append_assoc p.visits q.visits r.visits)
+    ∙ ap (λ (l : List ℕ). record { visits = p.visits ++ (q.visits ++ r.visits); lengths = l }) (append_assoc p.lengths q.lengths r.lengths)
+
+pub seen_joins : (p q r : AllSeen) → seen_then (seen_then p q) r ≡ seen_then p (seen_then q r)
+seen_joins p q r =
+    ap (λ (s : Seen). record { zero = s; one = then_at (then_at p.one q.one) r.one; two = then_at (then_at p.two q.two) r.two })
+    (then_joins p.zero q.zero r.zero)
+    ∙ ap (λ (s : Seen). record { zero = then_at p.zero (then_at q.zero r.zero); one = s; two = then_at (then_at p.two q.two) r.two })
+    (then_joins p.one q.one r.one)
+    ∙ ap (λ (s : Seen). record { zero = then_at p.zero (then_at q.zero r.zero); one = then_at p.one (then_at q.one r.one); two = s })
+    (then_joins p.two q.two r.two)
+
+pub then_nothing : (s : Seen) → then_at s nothing ≡ s
+then_nothing s =
+    ap (λ v. record { visits = v; lengths = s.lengths ++ [] }) (append-nil s.visits)
+    ∙ ap (λ (l : List ℕ). record { visits = s.visits; lengths = l }) (append-nil s.lengths)
+
 -- lists
 module _ {A : Type 0} where
   list_then : (a b c xs ys : List A) → b ≡ a ++ xs → c ≡ b ++ ys → c ≡ a ++ (xs ++ ys)

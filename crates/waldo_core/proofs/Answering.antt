@@ -1,5 +1,5 @@
 -- An answer.
-use Rattle.std.proofs.Common.{◌≡◌, ◌∙◌, refl, sym, ap, subst, ℕ, inl, inr, false, Option, Some, None, slice_get, List, [], length}
+use Rattle.std.proofs.Common.{◌≡◌, ◌∙◌, refl, sym, ap, subst, ℕ, ℤ, inl, inr, false, Option, Some, None, slice_get, List, [], length}
 use Rattle.std.specs.Prelude.{Result, Ok, Err, IfOk}
 use Rattle.prefix_log.specs.declared.snapshot.Snapshot.{Snapshot}
 use Rattle.prg_chacha.specs.declared.seed.Seed.{Seed}
@@ -8,6 +8,7 @@ use Rattle.query_plan.specs.Seeds.{weights_of}
 use Rattle.query_plan.specs.Views.{key_from}
 use Rattle.query_plan.specs.declared.query.Query.{Query}
 use Rattle.ring128.specs.Ring.{times}
+use Rattle.ring128.specs.Signed.{word_of}
 use Rattle.scan_chunks.specs.Shelf.{Held}
 use Rattle.server_rounds.specs.declared.opened.OpenedPair.{OpenedPair}
 use Rattle.transcript.specs.Transcript.{IsPart}
@@ -110,8 +111,9 @@ module _ (m : Seen) (number : ℕ) (query : Query) (seed : Seed) where
         → IfOk (named (events.Answer number query seed) (replied n r)) (λ (reply : Reply). IsPlain m.core (events.Answer number query seed) pair × (is_altered reply ≡ false))
     answer_plain ms pair n (Ok a) is plain = (
       subst (λ (o : Option ℕ). IsPlainOver m.core.order o query seed pair) (sym by.agreed)
-          (accepted_as query seed pair a.total is.1
-          ∙ ap (λ (total : ℕ). record { total = total; weighted = times (key_from (weights_of seed 1) query.count) total }) (plain ∙ ap (λ (v : Entries). plain_total v query) by.first)),
+          (accepted_as e query seed ms pair a.total is.0 is.1
+          ∙ ap (λ (total : ℤ). record { total = word_of total; weighted = times (key_from (weights_of seed 1) query.count) (word_of total) })
+          (plain ∙ ap (λ (v : Entries). plain_total v query) by.first)),
       refl,
     )
     answer_plain ms pair n (Err (faults.Altered total weighted)) is plain = absurd plain

@@ -1,5 +1,5 @@
 -- What each event does to the core, and its reply.
-use Rattle.std.specs.Prelude.{ℕ, zero, suc, ◌+◌, ◌&&◌, ◌||◌, Bool, true, false, if◌then◌else◌, nat_lt, is_some, ⊤, Option, Some, None}
+use Rattle.std.specs.Prelude.{ℕ, ℤ, zero, suc, ◌+◌, ◌&&◌, ◌||◌, Bool, true, false, if◌then◌else◌, nat_lt, is_some, ⊤, Option, Some, None}
 use Rattle.std.specs.Prelude.{Result, Ok, Err, List, [], ◌∷◌, ◌++◌, length, slice_get, min, max}
 use Rattle.list_facts.specs.Count.{has}
 use Rattle.prg_chacha.specs.declared.seed.Seed.{Seed}
@@ -87,7 +87,7 @@ fix_step core number actor (First p) = let found = prefix core.one in fixed core
 fix_step core number actor (Second p q) = agreed core number actor p q (prefix core.two)
 
 -- what the client answers over n rows: the total where the check accepts the pair, else the pair
-abbrev pub reply_of : ℕ → Result ℕ Refused → Reply
+abbrev pub reply_of : ℕ → Result ℤ Refused → Reply
 reply_of n (Ok total) = replies.Answered n total
 reply_of n (Err pair) = replies.Altered n pair.total pair.weighted
 

@@ -50,10 +50,10 @@ pub enum Reply {
         had: u64,
         floor: u64,
     },
-    /// The count or sum over the first rows.
+    /// The count or sum over the first rows; a sum may be negative.
     Answered {
         rows: u64,
-        total: u64,
+        total: i64,
     },
     /// The check refused what was opened over the first rows.
     Altered {

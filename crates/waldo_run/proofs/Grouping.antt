@@ -16,7 +16,6 @@ use Rattle.bucket_groups.specs.declared.check.GroupAnswer.TheVariants.{Good}
 use Rattle.list_facts.proofs.Listed.{length-listed}
 use Rattle.list_facts.specs.Listed.{listed}
 use Rattle.onehot_column.specs.Code.{width_of}
-use Rattle.ring128.specs.Signed.{word_of}
 use Rattle.prg_chacha.specs.declared.seed.Seed.{Seed}
 use Rattle.query_plan.specs.declared.group.GroupQuery.{GroupQuery}
 use Rattle.query_plan.specs.declared.query.Query.{Query}
@@ -82,7 +81,7 @@ same_checked w s i g ms total weighted there t v =
 
 same_plain : (w : Widths) (s : Setting) (g : GroupQuery) → g.column < w.columns → plain_groups (entries_in w s) g.query g.column ≡ plain_buckets (column_bits w) s g
 same_plain w s g there =
-    let good : ℕ → List Row → List GroupAnswer = λ n rows. map (λ (x : ℤ). Good (word_of x)) (grouped g.query g.column n rows) in
+    let good : ℕ → List Row → List GroupAnswer = λ n rows. map Good (grouped g.query g.column n rows) in
     ap (λ (n : ℕ). good n (rows_in (seeded_rows s.master 0 s.rows))) (same_width w g.column there)
     ∙ ap (good (width_by (column_bits w) g.column)) (rows_back s.master 0 s.rows)
 
@@ -291,7 +290,7 @@ lines_plain unaltered still w bits s i (g ∷ gs) (d ∷ ds) done honest plain =
     ∙ ap (λ (l : List Line). query_lines s i g (plain_buckets bits s g) ++ l) (lines_plain unaltered still w bits s (i + 1) gs ds done.2 honest.1 plain.1)
 
 -- no plain line is that of a refused pair
-good_quiet : (i rows : ℕ) (aggregate : Aggregate) (b : ℕ) (plains : List ℤ) → list_any is_altered (bucket_lines i rows aggregate b (map (λ (n : ℤ). Good (word_of n)) plains)) ≡ false
+good_quiet : (i rows : ℕ) (aggregate : Aggregate) (b : ℕ) (plains : List ℤ) → list_any is_altered (bucket_lines i rows aggregate b (map Good plains)) ≡ false
 good_quiet i rows aggregate b [] = refl
 good_quiet i rows aggregate b (n ∷ plains) = good_quiet i rows aggregate (b + 1) plains
 

@@ -1,5 +1,5 @@
 -- The query of `tree`: its messages, the wires, and its reply.
-use Rattle.std.proofs.Common.{◌≡◌, ◌≢◌, ◌∙◌, refl, sym, ap, subst, Bool, true, false, cond, eqb, ◌++◌, ℕ, zero, suc, ◌+◌, ◌-◌, ◌*◌, ◌%◌, ◌^◌, ◌<◌, ◌≤◌, List, [], ◌∷◌, All, Option, Some, length, map, max, drop, take, slice_get, set, get_or, append-nil, arith}
+use Rattle.std.proofs.Common.{◌≡◌, ◌≢◌, ◌∙◌, refl, sym, ap, subst, Bool, true, false, cond, eqb, ◌++◌, ℕ, ℤ, zero, suc, ◌+◌, ◌-◌, ◌*◌, ◌%◌, ◌^◌, ◌<◌, ◌≤◌, List, [], ◌∷◌, All, Option, Some, length, map, max, drop, take, slice_get, set, get_or, append-nil, arith}
 use Rattle.std.proofs.lemmas.Bool.{eq-eqb, eqb-true, le-ltb, lt-ltb}
 use Rattle.std.proofs.lemmas.List.{length-drop, length-take, take_all}
 use Rattle.agreed_rows.specs.Agreed.{Entries}
@@ -19,6 +19,8 @@ use Rattle.query_plan.specs.Laws.{AreKeysOf}
 use Rattle.query_plan.specs.Seeds.{weights_of}
 use Rattle.query_plan.specs.Views.{key_from}
 use Rattle.replicated_share.specs.Share.{AreShares}
+use Rattle.ring128.specs.Signed.{word_of, signed_of, size_of}
+use Rattle.ring128.proofs.Signed.{signed-word}
 use Rattle.ring128.specs.Ring.{times}
 use Rattle.row_tree.specs.Column.{Tree}
 use Rattle.row_tree.specs.Laws.{AsksTrees, TreesOpen, rows_between}
@@ -195,8 +197,11 @@ seeded_held w master i (row ∷ rows) held =
     (seeded_held w master (i + 1) rows (All-tail (Holds w) row rows held))
 
 -- a pair that keeps the relation is accepted
-accepted : (total key : ℕ) → total < 2 ^ 64 → checked total (times key total) key ≡ Ok total
-accepted total key small = rw (eq-eqb (times key total) (times key total) refl, lt-ltb total (2 ^ 64) small) refl
+accepted : (answer : ℤ) (key : ℕ) → size_of answer < 2 ^ 63 → checked (word_of answer) (times key (word_of answer)) key ≡ Ok answer
+accepted answer key small =
+    let same : signed_of (word_of answer) ≡ answer = signed-word answer (omega arith) in
+    let product = times key (word_of answer) in
+    rw (eq-eqb product product refl, same, lt-ltb (size_of answer) (2 ^ 63) small) refl
 
 -- the servers' trees hold the rows
 module _ (hold : PiecesHold) (w : Widths) (s : Setting) (low high : ℕ) (legal : IsRange w s low high) where
@@ -243,13 +248,13 @@ module _ (hold : PiecesHold) (w : Widths) (s : Setting) (low high : ℕ) (legal 
     };
   }
 
-  small_count : PlainIsSmall → plain_count s low high < 2 ^ 64
+  small_count : PlainIsSmall → size_of (plain_count s low high) < 2 ^ 63
   small_count small =
       let most : max 1 (length s.rows) ≤ 65536 = legal.setting.fits.1 in
       let rows = rows_between s.rows low high in
       let few : length rows ≤ 65536 = omega (arith, most, length-take (high - low) (drop low s.rows), length-drop low s.rows) in
       let held = All-take (Holds w) (high - low) (drop low s.rows) (All-drop (Holds w) low s.rows legal.setting.held) in
-      omega (arith, (small w (query_in s) rows held few).1)
+      omega (arith, small w (query_in s) rows held few)
 
   -- what is opened of messages that were received as they were sent is accepted, and it is the plain count
   pub opens_plainly : TreesOpen → PlainIsSmall → high ≤ length s.rows → AreKeysOf (asked_in w s) → (ms : List Message) → IsTreeTranscript (sides_in w s low high) ms
@@ -257,12 +262,13 @@ module _ (hold : PiecesHold) (w : Widths) (s : Setting) (low high : ℕ) (legal 
   opens_plainly law small there keys ms all honest =
       let o = law (asked_in w s) s.rows (tree_in w s 0) (tree_in w s 1) (tree_in w s 2) low high ms legal.order there (asks keys) all honest in
       let weights = weights_of (seed_in s) 1 in
-      let n = plain_count s low high in
+      let answer = plain_count s low high in
+      let n = word_of answer in
       let count = (query_in s).count in
       ap (λ (t : ℕ). checked t (tree_opened ms 1) (key_from weights count)) o.0
       ∙ ap (λ (v : ℕ). checked n v (key_from weights count)) o.1
       ∙ ap (λ (c : ℕ). checked n (times (key_from weights 1) n) (key_from weights c)) legal.one
-      ∙ accepted n (key_from weights 1) (small_count small)
+      ∙ accepted answer (key_from weights 1) (small_count small)
 
 -- ---- the reply
 

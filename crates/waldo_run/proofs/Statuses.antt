@@ -1,6 +1,6 @@
 -- What a run says of each status.
 use Rattle.std.proofs.lemmas.Bool.{ltb-true}
-use Rattle.std.proofs.Common.{rules, ◌≡◌, ◌≢◌, ◌<◌, ◌⊎◌, inl, inr, ℕ, zero, suc, Bool, true, false, cond, ltb, length, List, refl, sym, ◌∙◌, subst, arith}
+use Rattle.std.proofs.Common.{rules, ◌≡◌, ◌≢◌, ◌<◌, ◌⊎◌, inl, inr, ℕ, ℤ, zero, suc, Bool, true, false, cond, ltb, length, List, refl, sym, ◌∙◌, subst, arith}
 use Rattle.std.specs.Prelude.{⊤, Option, None, Some, Result, Ok, Err, IfSome, IsErr}
 use Rattle.std.specs.List.{list_any}
 use Rattle.race_play.specs.Reports.{is_altered}
@@ -70,11 +70,11 @@ five_status : (scheduled refused : Type 0) → refused → OfRows scheduled refu
 five_status scheduled refused r = record { two = λ e. absurd (omega (arith, e)); three = omega arith; four = omega arith; five = λ _. r }
 
 -- a range
-line_status : (refused : Type 0) (low high : ℕ) (said : Result ℕ Altered) → OfRows ⊥ refused (range_line low high said).status
+line_status : (refused : Type 0) (low high : ℕ) (said : Result ℤ Altered) → OfRows ⊥ refused (range_line low high said).status
 line_status refused low high (Ok total) = by_altered ⊥ refused false
 line_status refused low high (Err pair) = by_altered ⊥ refused true
 
-range_status : (s : Setting) (low high : ℕ) (said : Result ℕ Altered) → OfRows ⊥ (length s.rows < high) (range_reply s low high said).status
+range_status : (s : Setting) (low high : ℕ) (said : Result ℤ Altered) → OfRows ⊥ (length s.rows < high) (range_reply s low high said).status
 range_status s low high said = by (ltb (length s.rows) high) refl
   where
     by : (t : Bool) → ltb (length s.rows) high ≡ t → OfRows ⊥ (length s.rows < high) (cond t (single 5 (lines.TooFew high)) (range_line low high said)).status

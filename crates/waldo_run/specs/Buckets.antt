@@ -1,5 +1,5 @@
 -- The work of `groups`: queries by the buckets of a column, one after another over all rows.
-use Rattle.std.specs.Prelude.{◌≡◌, ◌⊎◌, ⊤, ℕ, ℤ, ◌+◌, ◌^◌, ◌<◌, List, [], ◌∷◌, ◌++◌, All, length, map, slice_index}
+use Rattle.std.specs.Prelude.{◌≡◌, ◌⊎◌, ⊤, ℕ, ◌+◌, ◌^◌, ◌<◌, List, [], ◌∷◌, ◌++◌, All, length, map, slice_index}
 use Rattle.agreed_groups.specs.Answers.{groups_over, judged_groups}
 use Rattle.agreed_rows.specs.Agreed.{Entries}
 use Rattle.bucket_groups.specs.Grouped.{grouped}
@@ -8,7 +8,6 @@ use Rattle.bucket_groups.specs.Seen.{group_trace}
 use Rattle.bucket_groups.specs.declared.check.GroupAnswer.{GroupAnswer}
 use Rattle.bucket_groups.specs.declared.check.GroupAnswer.TheVariants.{Good, Altered}
 use Rattle.list_facts.specs.Listed.{listed}
-use Rattle.ring128.specs.Signed.{word_of}
 use Rattle.prg_chacha.specs.Prg.{derive_of}
 use Rattle.prg_chacha.specs.declared.seed.Seed.{Seed}
 use Rattle.query_plan.specs.Query.{Suits}
@@ -91,7 +90,7 @@ checked_buckets bits s i g ms = judged_groups g.query (seed_at s i) (opened_buck
 
 -- the plain answer over the rows of each bucket
 abbrev pub plain_buckets : List ℕ → Setting → GroupQuery → List GroupAnswer
-plain_buckets bits s g = map (λ (n : ℤ). Good (word_of n)) (grouped g.query g.column (width_by bits g.column) s.rows)
+plain_buckets bits s g = map Good (grouped g.query g.column (width_by bits g.column) s.rows)
 
 -- of messages that were received as they were sent the check says the plain answers
 abbrev pub ArePlainBuckets : List ℕ → Setting → ℕ → List GroupQuery → List Done → Type 0

@@ -1,5 +1,5 @@
 -- The reply to each command and each way in which the input was met.
-use Rattle.std.specs.Prelude.{◌≡◌, ◌≢◌, ℕ, zero, suc, if◌then◌else◌, nat_lt, MatchBool, Result, Ok, Err, List, [], ◌∷◌, length, map}
+use Rattle.std.specs.Prelude.{◌≡◌, ◌≢◌, ℕ, ℤ, zero, suc, if◌then◌else◌, nat_lt, MatchBool, Result, Ok, Err, List, [], ◌∷◌, length, map}
 use Rattle.std.specs.List.{list_any}
 use Rattle.query_plan.specs.Query.{shaped}
 use Rattle.query_plan.specs.declared.query.Query.{Query}
@@ -82,11 +82,11 @@ abbrev pub Answering : Type 0
 Answering = Work → Reply
 
 -- the line of a range, by what the check says of the pair that was opened; or that there are fewer rows than it asks for
-abbrev pub range_line : ℕ → ℕ → Result ℕ Altered → Reply
+abbrev pub range_line : ℕ → ℕ → Result ℤ Altered → Reply
 range_line low high (Ok total) = single 0 (lines.Tree low high total (length (cover_of low high)))
 range_line low high (Err pair) = single 7 (lines.TreeAltered pair.total pair.weighted)
 
-abbrev pub range_reply : Setting → ℕ → ℕ → Result ℕ Altered → Reply
+abbrev pub range_reply : Setting → ℕ → ℕ → Result ℤ Altered → Reply
 range_reply s low high said = if nat_lt (length s.rows) high then single 5 (lines.TooFew high) else range_line low high said
 
 -- the reply of lines: 7 where one of them is that of a refused pair

@@ -1,8 +1,7 @@
 -- The query of `tree`: its messages, and what they open.
-use Rattle.std.specs.Prelude.{ℕ, ◌≡◌, ◌<◌, ◌≤◌, ⊤, Result, Ok, List, [], ◌∷◌, length, slice_index_or}
+use Rattle.std.specs.Prelude.{ℕ, ℤ, ◌≡◌, ◌<◌, ◌≤◌, ⊤, Result, Ok, List, [], ◌∷◌, length, slice_index_or}
 use Rattle.agreed_rows.specs.Answers.{judged}
 use Rattle.onehot_column.specs.Code.{width_of}
-use Rattle.ring128.specs.Signed.{word_of}
 use Rattle.prg_chacha.specs.Prg.{derive_of}
 use Rattle.prg_chacha.specs.declared.seed.Seed.{Seed}
 use Rattle.query_plan.specs.KeyMessages.{Asked}
@@ -92,11 +91,11 @@ BeginsRange w s low high (d ∷ []) = (d.step ≡ Answer 0 0) × IsTreePart (sid
 BeginsRange w s low high (d ∷ e ∷ ds) = ⊥
 
 -- how many of the rows in the range pass
-abbrev pub plain_count : Setting → ℕ → ℕ → ℕ
-plain_count s low high = word_of (plain (query_in s) (rows_between s.rows low high))
+abbrev pub plain_count : Setting → ℕ → ℕ → ℤ
+plain_count s low high = plain (query_in s) (rows_between s.rows low high)
 
 -- what the check says of a pair that the query opened
-abbrev pub judged_in : Setting → OpenedPair → Result ℕ Altered
+abbrev pub judged_in : Setting → OpenedPair → Result ℤ Altered
 judged_in s pair = judged (query_in s) (seed_in s) pair
 
 -- of messages that were received as they were sent the check accepts the pair, and it is that number

@@ -1,9 +1,9 @@
 -- Odd factors, and factors that are small, can be cancelled modulo 2^128.
-use Rattle.std.proofs.Common.{◌≡◌, ◌≢◌, ℕ, zero, suc, ◌+◌, ◌*◌, ◌/◌, ◌-◌, ◌%◌, ◌^◌, ◌<◌, ◌≤◌, arith, mul-add, inl, inr, sym, ap, ◌∙◌}
+use Rattle.std.proofs.Common.{◌≡◌, ◌≢◌, ℕ, zero, suc, ◌+◌, ◌*◌, ◌/◌, ◌-◌, ◌%◌, ◌^◌, ◌<◌, ◌≤◌, ◌⊎◌, arith, mul-add, inl, inr, sym, ap, ◌∙◌}
 use Rattle.std.proofs.Math.Nat.{le-mul_of_pos_right, pow-succ'}
 use Rattle.std.proofs.lemmas.Nat.{mul-lt, mul-mod}
 use Rattle.std.proofs.lemmas.Bool.{cases_lt}
-use Rattle.ring128.specs.Ring.{plus, times}
+use Rattle.ring128.specs.Ring.{times}
 
 odd_times : (a d : ℕ) → a % 2 ≡ 1 → (a * d) % 2 ≡ d % 2
 odd_times a d odd = mul-mod a d 2 ∙ ap (λ n. (n * (d % 2)) % 2) odd ∙ omega arith
@@ -43,26 +43,28 @@ none_left k d some hk hd whole =
     let most : k * d < 2 ^ 64 * 2 ^ 64 = mul-lt k d (2 ^ 64) (2 ^ 64) hk hd in
     omega (arith, least, most, whole)
 
--- the same of a factor that is small or just below 2^128
-none_near : (plain k d : ℕ) → plain < 2 ^ 64 → d ≢ 0 → d < 2 ^ 128 → plus plain d < 2 ^ 64 → k < 2 ^ 64 → (k * d) % 2 ^ 128 ≡ 0 → k ≡ 0
-none_near plain k d hp some hd near hk whole = elim (cases_lt (plain + d) (2 ^ 128)) [
-  | inl h ↦ none_left k d some hk (omega arith) whole
+-- a factor that is small, or just below 2^128
+abbrev pub IsNear : ℕ → Type 0
+IsNear d = (d < 2 ^ 64) ⊎ (2 ^ 128 - d < 2 ^ 64)
+
+none_near : (k d : ℕ) → d ≢ 0 → d < 2 ^ 128 → IsNear d → k < 2 ^ 64 → (k * d) % 2 ^ 128 ≡ 0 → k ≡ 0
+none_near k d some hd near hk whole = elim near [
+  | inl h ↦ none_left k d some hk h whole
   | inr h ↦
       let back : k * (2 ^ 128 - d) + k * d ≡ k * 2 ^ 128 = sym (mul-add k (2 ^ 128 - d) d) ∙ ap (λ n. k * n) (omega arith) in
-      none_left k (2 ^ 128 - d) (omega arith) hk (omega arith) (omega (arith, back, whole))
+      none_left k (2 ^ 128 - d) (omega arith) hk h (omega (arith, back, whole))
 ]
 
-near_more : (plain d x k : ℕ) → plain < 2 ^ 64 → d ≢ 0 → d < 2 ^ 128 → plus plain d < 2 ^ 64 → k < 2 ^ 64 → times x d ≡ times (x + k) d → k ≡ 0
-near_more plain d x k hp some hd near hk e = none_near plain k d hp some hd near hk (omega (arith, e))
+near_more : (d x k : ℕ) → d ≢ 0 → d < 2 ^ 128 → IsNear d → k < 2 ^ 64 → times x d ≡ times (x + k) d → k ≡ 0
+near_more d x k some hd near hk e = none_near k d some hd near hk (omega (arith, e))
 
--- a factor that keeps a small number small, when it is added to it, can be cancelled from two small numbers
-pub near_factor : (plain d x y : ℕ) → plain < 2 ^ 64 → d ≢ 0 → d < 2 ^ 128 → plus plain d < 2 ^ 64 → x < 2 ^ 64 → y < 2 ^ 64
-    → times x d ≡ times y d → x ≡ y
-near_factor plain d x y hp some hd near hx hy e = elim (cases_lt x y) [
+-- such a factor can be cancelled from two small numbers
+pub near_factor : (d x y : ℕ) → d ≢ 0 → d < 2 ^ 128 → IsNear d → x < 2 ^ 64 → y < 2 ^ 64 → times x d ≡ times y d → x ≡ y
+near_factor d x y some hd near hx hy e = elim (cases_lt x y) [
   | inl h ↦
       let s : y ≡ x + (y - x) = omega arith in
-      let z = near_more plain d x (y - x) hp some hd near (omega arith) (e ∙ ap (λ n. times n d) s) in omega arith
+      let z = near_more d x (y - x) some hd near (omega arith) (e ∙ ap (λ n. times n d) s) in omega arith
   | inr h ↦
       let s : x ≡ y + (x - y) = omega arith in
-      let z = near_more plain d y (x - y) hp some hd near (omega arith) (sym e ∙ ap (λ n. times n d) s) in omega arith
+      let z = near_more d y (x - y) some hd near (omega arith) (sym e ∙ ap (λ n. times n d) s) in omega arith
 ]

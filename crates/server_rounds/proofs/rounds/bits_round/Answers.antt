@@ -1,123 +1,82 @@
-use Rattle.std.proofs.Common.{◌∙◌, sym, [], ◌∷◌, map, refl, rules}
-use Rattle.std.proofs.lemmas.Result.{IfOk-at_ok}
+use Rattle.std.proofs.Common.{◌∙◌, sym, ap, [], ◌∷◌, length, refl, rules}
+use Rattle.list_facts.proofs.Listed.{length-listed}
 use Rattle.wire_line.specs.Carried.{went_none}
 use Rattle.server_rounds.proofs.Messages.{group_none, regroup, three_same}
-use Rattle.server_rounds.proofs.Visiting.{all_made, all_stopped, visited_ok}
-use Rattle.query_plan.specs.KeyMessages.{view_from}
+use Rattle.server_rounds.proofs.Visiting.{visited_stopped}
+use Rattle.server_rounds.proofs.Stretched.{seen_begun}
 use Rattle.transcript.specs.Setup.{column_of}
-use Rattle.server_rounds.specs.Shelves.{pieces_of}
-use Rattle.server_rounds.proofs.Parts.{bits_are_words}
 use Rattle.server_rounds.specs.declared.servers.Servers.{Servers}
 use Rattle.visit_trace.specs.Growing.{by_stopped, prefix_none}
 use Rattle.server_rounds.proofs.Noting.{bits_noted, enough_all, grew_along, prefix_along, server_noted}
 use Rattle.server_rounds.proofs.rounds.bits_round.Goals as goal
 
-pub returns-in_err-numbers-clause-messages : goal.returns-in_err-numbers-clause-messages
-returns-in_err-numbers-clause-messages g c =
+pub returns-in_err-words-clause-messages : goal.returns-in_err-words-clause-messages
+returns-in_err-words-clause-messages g c =
     ([], went_none g.W.Wire.sight _ _ refl refl (g.met.W.Wire.none_passes _), group_none _ _, search rules)
+
+pub returns-in_err-words-clause-trace : goal.returns-in_err-words-clause-trace
+returns-in_err-words-clause-trace g c = by_stopped _ _ _ _ c.from_residual.ensures.0 (prefix_none _ _)
+
+pub returns-in_err-words-clause-visits : goal.returns-in_err-words-clause-visits
+returns-in_err-words-clause-visits g c =
+    let held = g.S.Shelf.held in
+    let visited = g.S.Shelf.visited in
+    let v = c.in_err-words.ensures in
+    let e = c.from_residual.ensures.0 in
+    let columns = column_of c.args.plan.now c.args.j ∷ [] in
+    let old = c.args.shelves.now in
+    let new = c.bits_at_once.new in
+    record {
+      zero = visited_stopped held visited columns old.zero.items new.zero.items _ e v.zero.visits;
+      one = visited_stopped held visited columns old.one.items new.one.items _ e v.one.visits;
+      two = visited_stopped held visited columns old.two.items new.two.items _ e v.two.visits;
+    }
 
 pub reshare_noted-requires-clause-one : goal.reshare_noted-requires-clause-one
 reshare_noted-requires-clause-one g c =
-    let w = c.in_ok-numbers.ensures in
-    let l = c.with_three_zeros-words.ensures.long in
-    let v = c.numbers_at_once-zero.ensures in
-    l.long1 ∙ (IfOk-at_ok _ w.at1 v.one.long ∙ sym (l.long0 ∙ IfOk-at_ok _ w.at0 v.zero.long))
+    let w = c.in_ok-words.ensures in
+    ap length w.one.written ∙ length-listed _ _ ∙ sym (ap length w.zero.written ∙ length-listed _ _)
 
 pub reshare_noted-requires-clause-two : goal.reshare_noted-requires-clause-two
 reshare_noted-requires-clause-two g c =
-    let w = c.in_ok-numbers.ensures in
-    let l = c.with_three_zeros-words.ensures.long in
-    let v = c.numbers_at_once-zero.ensures in
-    l.long2 ∙ (IfOk-at_ok _ w.at2 v.two.long ∙ sym (l.long0 ∙ IfOk-at_ok _ w.at0 v.zero.long))
+    let w = c.in_ok-words.ensures in
+    ap length w.two.written ∙ length-listed _ _ ∙ sym (ap length w.zero.written ∙ length-listed _ _)
+
+pub reshare_noted-requires-clause-zero_seen : goal.reshare_noted-requires-clause-zero_seen
+reshare_noted-requires-clause-zero_seen g c =
+    let v = c.in_ok-words.ensures.zero in
+    enough_all g.S.Shelf.held g.S.Shelf.visited (column_of c.args.plan.now c.args.j) c.args.shelves.now.zero.items c.bits_at_once.new.zero.items v.same v.visits
+
+pub reshare_noted-requires-clause-one_seen : goal.reshare_noted-requires-clause-one_seen
+reshare_noted-requires-clause-one_seen g c =
+    let v = c.in_ok-words.ensures.one in
+    enough_all g.S.Shelf.held g.S.Shelf.visited (column_of c.args.plan.now c.args.j) c.args.shelves.now.one.items c.bits_at_once.new.one.items v.same v.visits
+
+pub reshare_noted-requires-clause-two_seen : goal.reshare_noted-requires-clause-two_seen
+reshare_noted-requires-clause-two_seen g c =
+    let v = c.in_ok-words.ensures.two in
+    enough_all g.S.Shelf.held g.S.Shelf.visited (column_of c.args.plan.now c.args.j) c.args.shelves.now.two.items c.bits_at_once.new.two.items v.same v.visits
 
 pub returns-in_err-held-clause-messages : goal.returns-in_err-held-clause-messages
 returns-in_err-held-clause-messages g c =
     let h = c.in_err-held.ensures.messages in
-    let w = c.in_ok-numbers.ensures in
-    let v = c.numbers_at_once-zero.ensures in
-    let sent = c.with_three_zeros-words.ensures in
-    let z = c.args.plan.now in
-    let run = c.args.run in
-    let j = c.args.j in
-    let keys = c.args.keys.now in
-    let shelves = c.args.shelves.now in
-    let held = g.S.Shelf.held in
-    let counter = c.bits_counter-start.ensures.value in
-    let e0 = bits_are_words z run (view_from keys.zero) (pieces_of (map held shelves.zero.items)) j _ _ _ _ _ sent.zero (IfOk-at_ok _ w.at0 v.zero.numbers) refl refl counter in
-    let e1 = bits_are_words z run (view_from keys.one) (pieces_of (map held shelves.one.items)) j _ _ _ _ _ sent.one (IfOk-at_ok _ w.at1 v.one.numbers) refl refl counter in
-    let e2 = bits_are_words z run (view_from keys.two) (pieces_of (map held shelves.two.items)) j _ _ _ _ _ sent.two (IfOk-at_ok _ w.at2 v.two.numbers) refl refl counter in
-    (h.0, h.1, regroup _ _ _ h.0 h.2 (three_same _ _ e0 e1 e2), search rules)
-
-pub returns-clause-long : goal.returns-clause-long
-returns-clause-long g c =
-    rw (c.with_three_zeros-words.ensures.long.long0 ∙ IfOk-at_ok _ c.in_ok-numbers.ensures.at0 c.numbers_at_once-zero.ensures.zero.long) at c.in_ok-held.ensures.long
-
-pub returns-clause-messages : goal.returns-clause-messages
-returns-clause-messages g c =
-    let h = c.in_ok-held.ensures.messages in
-    let w = c.in_ok-numbers.ensures in
-    let v = c.numbers_at_once-zero.ensures in
-    let sent = c.with_three_zeros-words.ensures in
-    let z = c.args.plan.now in
-    let run = c.args.run in
-    let j = c.args.j in
-    let keys = c.args.keys.now in
-    let shelves = c.args.shelves.now in
-    let held = g.S.Shelf.held in
-    let counter = c.bits_counter-start.ensures.value in
-    let e0 = bits_are_words z run (view_from keys.zero) (pieces_of (map held shelves.zero.items)) j _ _ _ _ _ sent.zero (IfOk-at_ok _ w.at0 v.zero.numbers) refl refl counter in
-    let e1 = bits_are_words z run (view_from keys.one) (pieces_of (map held shelves.one.items)) j _ _ _ _ _ sent.one (IfOk-at_ok _ w.at1 v.one.numbers) refl refl counter in
-    let e2 = bits_are_words z run (view_from keys.two) (pieces_of (map held shelves.two.items)) j _ _ _ _ _ sent.two (IfOk-at_ok _ w.at2 v.two.numbers) refl refl counter in
-    (h.0, h.1, regroup _ _ _ h.0 h.2 (three_same _ _ e0 e1 e2), h.3)
-
-pub returns-in_err-numbers-clause-visits : goal.returns-in_err-numbers-clause-visits
-returns-in_err-numbers-clause-visits g c =
-    let v = c.numbers_at_once-zero.ensures in
-    all_stopped g.S.Shelf.held g.S.Shelf.visited _ _ _ _ _ _ _ c.from_residual.ensures.0 v.zero.visits v.one.visits v.two.visits
+    let w = c.in_ok-words.ensures in
+    (h.0, h.1, regroup _ _ _ h.0 h.2 (three_same _ _ w.zero.written w.one.written w.two.written), search rules)
 
 pub returns-in_err-held-clause-visits : goal.returns-in_err-held-clause-visits
 returns-in_err-held-clause-visits g c =
-    let v = c.numbers_at_once-zero.ensures in
-    all_stopped g.S.Shelf.held g.S.Shelf.visited _ _ _ _ _ _ _ c.from_residual-in_err-held.ensures.0 v.zero.visits v.one.visits v.two.visits
-
-pub returns-clause-visits : goal.returns-clause-visits
-returns-clause-visits g c =
-    let v = c.numbers_at_once-zero.ensures in
-    let w = c.in_ok-numbers.ensures in
-    all_made g.S.Shelf.held g.S.Shelf.visited _ _ _ _ _ _ _ _ _ _ w.at0 w.at1 w.at2 v.zero.visits v.one.visits v.two.visits
-
-pub returns-in_err-numbers-clause-trace : goal.returns-in_err-numbers-clause-trace
-returns-in_err-numbers-clause-trace g c = by_stopped _ _ _ _ c.from_residual.ensures.0 (prefix_none _ _)
-
-pub reshare_noted-requires-clause-zero_seen : goal.reshare_noted-requires-clause-zero_seen
-reshare_noted-requires-clause-zero_seen g c =
     let held = g.S.Shelf.held in
     let visited = g.S.Shelf.visited in
-    let v = c.numbers_at_once-zero.ensures.zero in
-    let column = column_of c.args.plan.now c.args.j in
-    let old = c.args.shelves.now.zero.items in
-    let new = c.numbers_at_once-zero.new.zero.items in
-    enough_all held visited column old new v.same (visited_ok held visited (column ∷ []) old new _ _ c.in_ok-numbers.ensures.at0 v.visits)
-
-pub reshare_noted-requires-clause-one_seen : goal.reshare_noted-requires-clause-one_seen
-reshare_noted-requires-clause-one_seen g c =
-    let held = g.S.Shelf.held in
-    let visited = g.S.Shelf.visited in
-    let v = c.numbers_at_once-zero.ensures.one in
-    let column = column_of c.args.plan.now c.args.j in
-    let old = c.args.shelves.now.one.items in
-    let new = c.numbers_at_once-zero.new.one.items in
-    enough_all held visited column old new v.same (visited_ok held visited (column ∷ []) old new _ _ c.in_ok-numbers.ensures.at1 v.visits)
-
-pub reshare_noted-requires-clause-two_seen : goal.reshare_noted-requires-clause-two_seen
-reshare_noted-requires-clause-two_seen g c =
-    let held = g.S.Shelf.held in
-    let visited = g.S.Shelf.visited in
-    let v = c.numbers_at_once-zero.ensures.two in
-    let column = column_of c.args.plan.now c.args.j in
-    let old = c.args.shelves.now.two.items in
-    let new = c.numbers_at_once-zero.new.two.items in
-    enough_all held visited column old new v.same (visited_ok held visited (column ∷ []) old new _ _ c.in_ok-numbers.ensures.at2 v.visits)
+    let v = c.in_ok-words.ensures in
+    let e = c.from_residual-in_err-held.ensures.0 in
+    let columns = column_of c.args.plan.now c.args.j ∷ [] in
+    let old = c.args.shelves.now in
+    let new = c.bits_at_once.new in
+    record {
+      zero = visited_stopped held visited columns old.zero.items new.zero.items _ e (seen_begun held visited columns old.zero.items new.zero.items v.zero.visits);
+      one = visited_stopped held visited columns old.one.items new.one.items _ e (seen_begun held visited columns old.one.items new.one.items v.one.visits);
+      two = visited_stopped held visited columns old.two.items new.two.items _ e (seen_begun held visited columns old.two.items new.two.items v.two.visits);
+    }
 
 pub returns-in_err-held-clause-trace : goal.returns-in_err-held-clause-trace
 returns-in_err-held-clause-trace g c =
@@ -125,18 +84,30 @@ returns-in_err-held-clause-trace g c =
     let visited = g.S.Shelf.visited in
     let z = c.args.plan.now in
     let column = column_of z c.args.j in
-    let v = c.numbers_at_once-zero.ensures in
-    let w = c.in_ok-numbers.ensures in
-    let s0 = server_noted held visited z.widths z.rows column c.args.shelves.now.zero.items c.numbers_at_once-zero.new.zero.items c.requires.zero v.zero.same
-    (visited_ok held visited (column ∷ []) c.args.shelves.now.zero.items c.numbers_at_once-zero.new.zero.items _ _ w.at0 v.zero.visits) in
-    let s1 = server_noted held visited z.widths z.rows column c.args.shelves.now.one.items c.numbers_at_once-zero.new.one.items c.requires.one v.one.same
-    (visited_ok held visited (column ∷ []) c.args.shelves.now.one.items c.numbers_at_once-zero.new.one.items _ _ w.at1 v.one.visits) in
-    let s2 = server_noted held visited z.widths z.rows column c.args.shelves.now.two.items c.numbers_at_once-zero.new.two.items c.requires.two v.two.same
-    (visited_ok held visited (column ∷ []) c.args.shelves.now.two.items c.numbers_at_once-zero.new.two.items _ _ w.at2 v.two.visits) in
-    let n = c.with_three_zeros-words.ensures.long.long0 ∙ IfOk-at_ok _ w.at0 v.zero.long in
-    let after : Servers g.row.S.Denot = record { zero = c.numbers_at_once-zero.new.zero; one = c.numbers_at_once-zero.new.one; two = c.numbers_at_once-zero.new.two } in
+    let v = c.in_ok-words.ensures in
+    let old = c.args.shelves.now in
+    let new = c.bits_at_once.new in
+    let s0 = server_noted held visited z.widths z.rows column old.zero.items new.zero.items c.requires.zero v.zero.same v.zero.visits in
+    let s1 = server_noted held visited z.widths z.rows column old.one.items new.one.items c.requires.one v.one.same v.one.visits in
+    let s2 = server_noted held visited z.widths z.rows column old.two.items new.two.items c.requires.two v.two.same v.two.visits in
+    let n = ap length v.zero.written ∙ length-listed _ _ in
+    let after : Servers g.row.S.Denot = record { zero = new.zero; one = new.one; two = new.two } in
     let same = bits_noted held visited z column _ after s0 s1 s2 n in
     by_stopped _ _ _ _ c.from_residual-in_err-held.ensures.0 (prefix_along _ _ _ _ same c.in_err-held.ensures.trace)
+
+pub returns-clause-long : goal.returns-clause-long
+returns-clause-long g c = rw (ap length c.in_ok-words.ensures.zero.written ∙ length-listed _ _) at c.in_ok-held.ensures.long
+
+pub returns-clause-messages : goal.returns-clause-messages
+returns-clause-messages g c =
+    let h = c.in_ok-held.ensures.messages in
+    let w = c.in_ok-words.ensures in
+    (h.0, h.1, regroup _ _ _ h.0 h.2 (three_same _ _ w.zero.written w.one.written w.two.written), h.3)
+
+pub returns-clause-visits : goal.returns-clause-visits
+returns-clause-visits g c =
+    let v = c.in_ok-words.ensures in
+    record { zero = v.zero.visits; one = v.one.visits; two = v.two.visits }
 
 pub returns-clause-trace : goal.returns-clause-trace
 returns-clause-trace g c =
@@ -144,15 +115,13 @@ returns-clause-trace g c =
     let visited = g.S.Shelf.visited in
     let z = c.args.plan.now in
     let column = column_of z c.args.j in
-    let v = c.numbers_at_once-zero.ensures in
-    let w = c.in_ok-numbers.ensures in
-    let s0 = server_noted held visited z.widths z.rows column c.args.shelves.now.zero.items c.numbers_at_once-zero.new.zero.items c.requires.zero v.zero.same
-    (visited_ok held visited (column ∷ []) c.args.shelves.now.zero.items c.numbers_at_once-zero.new.zero.items _ _ w.at0 v.zero.visits) in
-    let s1 = server_noted held visited z.widths z.rows column c.args.shelves.now.one.items c.numbers_at_once-zero.new.one.items c.requires.one v.one.same
-    (visited_ok held visited (column ∷ []) c.args.shelves.now.one.items c.numbers_at_once-zero.new.one.items _ _ w.at1 v.one.visits) in
-    let s2 = server_noted held visited z.widths z.rows column c.args.shelves.now.two.items c.numbers_at_once-zero.new.two.items c.requires.two v.two.same
-    (visited_ok held visited (column ∷ []) c.args.shelves.now.two.items c.numbers_at_once-zero.new.two.items _ _ w.at2 v.two.visits) in
-    let n = c.with_three_zeros-words.ensures.long.long0 ∙ IfOk-at_ok _ w.at0 v.zero.long in
-    let after : Servers g.row.S.Denot = record { zero = c.numbers_at_once-zero.new.zero; one = c.numbers_at_once-zero.new.one; two = c.numbers_at_once-zero.new.two } in
+    let v = c.in_ok-words.ensures in
+    let old = c.args.shelves.now in
+    let new = c.bits_at_once.new in
+    let s0 = server_noted held visited z.widths z.rows column old.zero.items new.zero.items c.requires.zero v.zero.same v.zero.visits in
+    let s1 = server_noted held visited z.widths z.rows column old.one.items new.one.items c.requires.one v.one.same v.one.visits in
+    let s2 = server_noted held visited z.widths z.rows column old.two.items new.two.items c.requires.two v.two.same v.two.visits in
+    let n = ap length v.zero.written ∙ length-listed _ _ in
+    let after : Servers g.row.S.Denot = record { zero = new.zero; one = new.one; two = new.two } in
     let same = bits_noted held visited z column _ after s0 s1 s2 n in
     grew_along _ _ _ _ same c.in_ok-held.ensures.trace
