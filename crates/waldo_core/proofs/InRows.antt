@@ -60,8 +60,8 @@ pair_there (e ∷ entries) (suc place) d lt = pair_there entries place d (omega 
 range_below : (x a n : ℕ) → 0 < times x (range_with_len a n) → x < a + n
 range_below x a zero some = absurd (omega arith)
 range_below x a (suc n) some = ⊎_elim (λ (is : x ≡ a). omega arith)
-    (λ (ne : x ≡ a → ⊥). let rest : 0 < times x (range_with_len (a + 1) n) = subst (λ (b : Bool). 0 < cond b 1 0 + times x (range_with_len (a + 1) n)) (ne_eqb x a ne) some in
-    let lt = range_below x (a + 1) n rest in omega arith) (cases_eq x a)
+    (λ (ne : x ≡ a → ⊥). let rest : 0 < 0 + times x (range_with_len (a + 1) n) = subst (λ (b : Bool). 0 < cond b 1 0 + times x (range_with_len (a + 1) n)) (ne_eqb x a ne) some in
+    let lt = range_below x (a + 1) n (omega arith) in omega arith) (cases_eq x a)
 
 -- its journal has places alone
 taken_places : (n m : ℕ) (journal : List ℕ) → journal ≡ range_with_len 0 n → m ≡ n → HasNoMark m journal
