@@ -2,7 +2,7 @@
 use Rattle.std.specs.Prelude.{◌≡◌, ℕ, ◌≤◌, Some, List, All, length, take, slice_get}
 use Rattle.onehot_column.specs.Piece.{HasWidths, IsPiece}
 use Rattle.onehot_column.specs.declared.piece.Piece.{Piece}
-use Rattle.prefix_log.specs.Journal.{prefix}
+use Rattle.prefix_log.specs.Journal.{HasNoMark, prefix}
 use Rattle.prefix_log.specs.Logs.{Log, piece_at}
 use Rattle.prefix_log.specs.Snapshots.{HoldsPieces, KeepsRows, pieces_in}
 use Rattle.prg_chacha.specs.declared.seed.Seed.{Seed}
@@ -19,11 +19,12 @@ pub record IsShareAt (w : Widths) (k : ℕ) (order : List (Row × Seed)) (place 
   pub share : IsPiece w entry.0 entry.1 k piece
   pub wide : HasWidths w piece
 
--- the log of server k, which has pieces of the order alone
+-- the log of server k, which has pieces of the order alone and retired none
 pub record IsServer (k : ℕ) (w : Widths) (most : ℕ) (order : List (Row × Seed)) (log : Log) : Type 0 where
   pub number : log.server ≡ k
   pub widths : log.widths ≡ w
   pub capacity : log.capacity ≡ most
+  pub places : HasNoMark log.capacity log.journal
   pub shares : (place : ℕ) (piece : Piece) → piece_at log.slots place ≡ Some piece → IsShareAt w k order place piece
 
 -- a shelf is a snapshot of a log: it holds the pieces of the log's prefix

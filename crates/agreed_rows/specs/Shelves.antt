@@ -14,9 +14,9 @@ use Rattle.table_schema.specs.declared.widths.Widths.{Widths}
 
 -- three shelves, each cut to the rows of the least
 pub record AreCuts (old0 old1 old2 new0 new1 new2 : Held) : Type 0 where
-  pub zero : IsCut (min (min old0.rows old1.rows) old2.rows) old0 new0
-  pub one : IsCut (min (min old0.rows old1.rows) old2.rows) old1 new1
-  pub two : IsCut (min (min old0.rows old1.rows) old2.rows) old2 new2
+  pub zero : IsCut 0 (min (min old0.rows old1.rows) old2.rows) old0 new0
+  pub one : IsCut 0 (min (min old0.rows old1.rows) old2.rows) old1 new1
+  pub two : IsCut 0 (min (min old0.rows old1.rows) old2.rows) old2 new2
 
 -- shelves whose rows, one after another, are those of a whole one
 pub record ArePartsOf (whole : Held) (parts : List Held) : Type 0 where

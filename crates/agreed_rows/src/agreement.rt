@@ -10,6 +10,7 @@ ghost use Rattle.visit_trace.specs.Seen.{GrewBy};
 ghost use Rattle.wire_line.specs.Messages.{Went};
 ghost use Rattle.wire_line.specs.declared.message.Message.{Message};
 ghost use Rattle.agreed_rows.specs.Shelves.{AreCuts, ArePartsOf, AreRowsOf};
+ghost use Rattle.prefix_log.specs.Rows.{IsCut};
 
 use prefix_log::Snapshot;
 use query_plan::Keys;
@@ -36,9 +37,9 @@ impl Agreement {
             AreCuts (held zero) (held one) (held two) (held result.zero) (held result.one) (held result.two) }
     {
         let rows = zero.rows().min(one.rows()).min(two.rows());
-        zero.cut(rows);
-        one.cut(rows);
-        two.cut(rows);
+        keep_first(&mut zero, rows);
+        keep_first(&mut one, rows);
+        keep_first(&mut two, rows);
         Agreement { zero, one, two }
     }
 
@@ -100,4 +101,13 @@ impl Agreement {
         let mut shelves = self.shelves(alloc, workers)?;
         both_runs(rt, alloc, &mut shelves, keys, wire, trace)
     }
+}
+
+// Keeps the first rows alone. It takes no memory.
+fn keep_first(snapshot: &mut Snapshot, rows: u64)
+    requires { rows ≤ (⟦<Snapshot as Shelf>⟧.held snapshot.old).rows }
+    ensures { IsCut 0 rows (⟦<Snapshot as Shelf>⟧.held snapshot.old) (⟦<Snapshot as Shelf>⟧.held snapshot.new) }
+{
+    let start = snapshot.start();
+    snapshot.cut(start, start + rows);
 }

@@ -1,13 +1,14 @@
 -- Logs whose first places took rows in bulk.
-use Rattle.std.proofs.Common.{Option, Result, Ok, Err, OnErr, OnOk, ◌≡◌, ◌≢◌, ◌∙◌, refl, sym, ap, subst, ℕ, zero, suc, ◌+◌, ◌/◌, ◌%◌, ◌<◌, ◌≤◌, ⊎_elim, Bool, true, false, cond, List, [], ◌∷◌, ◌++◌, length, get_or, arith}
+use Rattle.std.proofs.Common.{Option, Result, Ok, Err, OnErr, OnOk, ◌≡◌, ◌≢◌, ◌∙◌, sym, ap, subst, ℕ, zero, suc, ◌+◌, ◌-◌, ◌/◌, ◌%◌, ◌<◌, ◌≤◌, ⊎_elim, Bool, true, false, cond, ltb, List, [], ◌∷◌, ◌++◌, drop, length, get_or, replicate, arith}
 use Rattle.std.specs.Result.{is_ok}
 use Rattle.std.specs.Prelude.{pos, Some, None, is_some, nat_lt}
 use Rattle.std.specs.List.{range_with_len}
 use Rattle.std.proofs.lemmas.Bool.{cases_lt}
 use Rattle.std.proofs.lemmas.Bool.Decides.{nat_tests}
-use Rattle.list_facts.specs.Count.{times, once_below}
+use Rattle.std.proofs.lemmas.List.{get_or_past}
+use Rattle.list_facts.specs.Count.{has, times, once_below}
 use Rattle.list_facts.proofs.Count.{once_below-more, times-append}
-use Rattle.table_schema.specs.Widths.{code_length, column_bits}
+use Rattle.table_schema.specs.Widths.{Fits, code_length, column_bits}
 use Rattle.table_schema.specs.declared.widths.Widths.{Widths}
 use Rattle.table_schema.specs.declared.rows.Row.{Row}
 use Rattle.prg_chacha.specs.declared.seed.Seed.{Seed}
@@ -22,9 +23,12 @@ use Rattle.onehot_column.specs.Piece.{HasWidths, IsPiece}
 use Rattle.onehot_column.specs.declared.piece.Piece.{Piece}
 use Rattle.prefix_log.specs.Bulk.{HasPieces, IsFree, RowIs, TakesRows}
 use Rattle.prefix_log.specs.Chunks.{Halves, HasRows, IsStored, Store, chunk_at, part_at, stored_piece, stored_slots}
-use Rattle.prefix_log.specs.Logs.{IsKept, IsOwn, Log, empty_log, log_of, piece_at}
-use Rattle.prefix_log.proofs.Kept.{filled_below, free_at, same_some}
-use Rattle.prefix_log.proofs.Stored.{stored_at, stored_first, stored_second, stored_length, stored_marks, stored_none, stored_server, stored_widths}
+use Rattle.prefix_log.specs.Journal.{IsJournal, start}
+use Rattle.prefix_log.specs.Logs.{IsKept, Log, empty_log, log_of, piece_at}
+use Rattle.prefix_log.proofs.Kept.{filled_below}
+use Rattle.prefix_log.proofs.Logged.{log_legal, of_cond}
+use Rattle.prefix_log.proofs.Marked.{journal_placed, no_mark_no_start}
+use Rattle.prefix_log.proofs.Stored.{stored_at, stored_first, stored_second, stored_length, stored_none, stored_server, stored_widths}
 
 pub lt_same : (x i : ℕ) → x ≡ i → nat_lt x (i + 1) ≡ true
 lt_same x i e = grind (arith, nat_tests)
@@ -59,67 +63,79 @@ times_range x (suc n) =
     ap (λ (m : ℕ). times x (range_with_len 0 m)) e ∙ ap (times x) (range_more n) ∙ times-append x (range_with_len 0 n) (n ∷ [])
     ∙ ap (λ (m : ℕ). m + times x (n ∷ [])) (times_range x n) ∙ sym (once_below-more x n) ∙ ap (once_below x) (sym e)
 
-once_cond : (x n : ℕ) → once_below x n ≡ cond (nat_lt x n) 1 0
-once_cond x n = grind (arith, nat_tests)
+some_below : (x n : ℕ) → ltb 0 (once_below x n) ≡ nat_lt x n
+some_below x n = grind (arith, nat_tests)
 
--- the piece of a slot
-of_cond : (b : Bool) (p q : Piece) → cond b (Some p) None ≡ Some q → (b ≡ true) × (p ≡ q)
-of_cond true p q e = (refl, same_some p q e)
-of_cond false p q e = absurd cc
+has_range : (x n : ℕ) → has x (range_with_len 0 n) ≡ nat_lt x n
+has_range x n = ap (ltb 0) (times_range x n) ∙ some_below x n
 
-module _ (space prefix server capacity : ℕ) (w : Widths) (journal journal' : List ℕ) (filled filled' : List Bool) (old new : Store)
-    (kept : IsKept space prefix (log_of server w capacity journal filled old.chunks)) (stored : IsStored w capacity prefix filled old) (m : ℕ) (le : m ≤ capacity)
-    (j : journal' ≡ range_with_len 0 m) (l : length filled' ≡ length filled) (f : (place : ℕ) → get_or filled' place false ≡ nat_lt place m) (free : IsFree w capacity new)
+range_journal : (capacity n : ℕ) → n ≤ capacity → IsJournal capacity (range_with_len 0 n)
+range_journal capacity zero le = tt
+range_journal capacity (suc n) le =
+    let e : suc n ≡ n + 1 = omega arith in
+    subst (IsJournal capacity) (sym (ap (range_with_len 0) e ∙ range_more n))
+    (journal_placed capacity (range_with_len 0 n) n (range_journal capacity n (omega arith)) (omega arith) (has_range n n ∙ lt_not n))
+
+module _ (space server capacity first : ℕ) (w : Widths) (journal : List ℕ) (filled : List Bool) (new : Store) (fits : Fits (column_bits w) capacity) (room : capacity + capacity / 64 ≤ space) (zero_first : first ≡ 0) (m : ℕ)
+    (le : m ≤ capacity) (j : journal ≡ range_with_len 0 m) (marks : length filled ≡ capacity) (f : (place : ℕ) → get_or filled place false ≡ nat_lt place m) (free : IsFree w capacity new)
     (rows : (place : ℕ) → place < m → HasRows w (place % 64 + 1) (chunk_at new.chunks (place / 64))) where
-  marks : length filled' ≡ capacity
-  marks = l ∙ stored.marks
+  places : (x : ℕ) → has x journal ≡ nat_lt x m
+  places x = ap (has x) j ∙ has_range x m
 
-  some_at : (place : ℕ) → is_some (piece_at (stored_slots server w capacity filled' new.chunks) place) ≡ nat_lt place m
-  some_at place = stored_marks server w capacity filled' new.chunks marks place ∙ f place
+  begin : start journal ≡ first
+  begin = no_mark_no_start capacity journal fits.1 (λ x there. let lt : x < m = yes_lt x m (sym (places x) ∙ there) in omega arith) ∙ sym zero_first
 
-  pub taken_piece : (place : ℕ) (piece : Piece) → piece_at (stored_slots server w capacity filled' new.chunks) place ≡ Some piece → (place < m) × (stored_piece server w new.chunks place ≡ piece)
-  taken_piece place piece e =
-      let within : place < capacity = omega (arith, filled_below (stored_slots server w capacity filled' new.chunks) place (ap is_some e), stored_length server w capacity filled' new.chunks) in
-      let both = of_cond (get_or filled' place false) (stored_piece server w new.chunks place) piece (sym (stored_at server w capacity filled' new.chunks place within) ∙ e) in
-      (yes_lt place m (sym (f place) ∙ both.0), both.1)
+  filled_are : (place : ℕ) → place < capacity → get_or filled place false ≡ has place journal
+  filled_are place lt = f place ∙ sym (places place)
 
-  own : (place : ℕ) (piece : Piece) → piece_at (stored_slots server w capacity filled' new.chunks) place ≡ Some piece → IsOwn server w piece
-  own place piece e = subst (IsOwn server w) (taken_piece place piece e).1 (record { server = stored_server server w new.chunks place; widths = stored_widths server w new.chunks place })
-
-  pub taken_kept : IsKept space m (log_of server w capacity journal' filled' new.chunks)
+  pub taken_kept : IsKept space m first filled (log_of server w capacity journal first filled new.chunks)
   taken_kept = record {
-    legal = record {
-      fits = kept.legal.fits;
-      places = stored_length server w capacity filled' new.chunks;
-      once = λ place. ap (times place) j ∙ times_range place m ∙ once_cond place m ∙ sym (ap (λ (b : Bool). cond b 1 0) (some_at place));
-      own = own;
-    };
-    room = kept.room;
-    below = λ place lt. some_at place ∙ lt_yes place m lt;
-    gap = some_at m ∙ lt_not m;
-  }
-
-  pub taken_stored : IsStored w capacity m filled' new
-  taken_stored = record {
+    legal = log_legal server capacity first w journal filled new.chunks fits marks (omega (arith, zero_first)) (subst (IsJournal capacity) (sym j) (range_journal capacity m le)) begin filled_are;
+    room = room;
+    reach = record { below = λ place lt. places place ∙ lt_yes place m lt; next = places m ∙ lt_not m };
+    begin = begin;
     marks = marks;
-    places = free.places;
-    rows = λ place marked. rows place (yes_lt place m (sym (f place) ∙ marked));
-    shared = (let z = free.none in omega arith);
+    filled_are = filled_are;
   }
 
--- a log without pieces has no marks
-pub unmarked : (server capacity k n : ℕ) (v w : Widths) (journal : List ℕ) (filled : List Bool) (store : Store) → length filled ≡ capacity → log_of server v capacity journal filled store.chunks ≡ empty_log k w n
-    → (place : ℕ) → get_or filled place false ≡ false
-unmarked server capacity k n v w journal filled store marks e place =
-    sym (stored_marks server v capacity filled store.chunks marks place) ∙ ap (λ (log : Log). is_some (piece_at log.slots place)) e ∙ free_at n place
+  pub taken_stored : IsStored w (capacity - first) (m - first) (drop first filled) new
+  taken_stored =
+      let all : capacity ≡ capacity - 0 = omega arith in
+      let most : m ≡ m - 0 = omega arith in
+      subst (λ (n : ℕ). IsStored w (capacity - n) (m - n) (drop n filled) new) (sym zero_first)
+      (subst (λ (n : ℕ). IsStored w n (m - 0) filled new) all (subst (λ (n : ℕ). IsStored w capacity n filled new) most (record {
+        marks = marks;
+        places = free.places;
+        rows = λ place marked. rows place (yes_lt place m (sym (f place) ∙ marked));
+        shared = (let z = free.none in omega arith);
+      })))
+
+-- the slots of a log that retired nothing
+slots_all : (server capacity first : ℕ) (w : Widths) (journal : List ℕ) (filled : List Bool) (chunks : List (List Halves)) → first ≡ 0 → (log_of server w capacity journal first filled chunks).slots ≡ stored_slots server w capacity filled chunks
+slots_all server capacity first w journal filled chunks none =
+    let all : capacity - 0 ≡ capacity = omega arith in
+    ap (λ (n : ℕ). replicate n None ++ stored_slots server w (capacity - n) (drop n filled) chunks) none ∙ ap (λ (n : ℕ). stored_slots server w n filled chunks) all
+
+-- and the piece of one
+taken_piece : (server capacity m : ℕ) (w : Widths) (filled : List Bool) (chunks : List (List Halves)) → ((place : ℕ) → get_or filled place false ≡ nat_lt place m) → (place : ℕ) (piece : Piece)
+    → piece_at (stored_slots server w capacity filled chunks) place ≡ Some piece → (place < m) × (stored_piece server w chunks place ≡ piece)
+taken_piece server capacity m w filled chunks f place piece e =
+    let within : place < capacity = omega (arith, filled_below (stored_slots server w capacity filled chunks) place (ap is_some e), stored_length server w capacity filled chunks) in
+    let both = of_cond (get_or filled place false) (stored_piece server w chunks place) piece (sym (stored_at server w capacity filled chunks place within) ∙ e) in
+    (yes_lt place m (sym (f place) ∙ both.0), both.1)
 
 -- ---- logs without pieces
 
-module _ (space prefix server capacity k n : ℕ) (v w : Widths) (journal : List ℕ) (filled : List Bool) (store : Store) (kept : IsKept space prefix (log_of server v capacity journal filled store.chunks))
-    (stored : IsStored v capacity prefix filled store) (e : log_of server v capacity journal filled store.chunks ≡ empty_log k w n) where
+module _ (space prefix first server capacity k n : ℕ) (v w : Widths) (journal : List ℕ) (filled : List Bool) (store : Store) (kept : IsKept space prefix first filled (log_of server v capacity journal first filled store.chunks))
+    (stored : IsStored v (capacity - first) (prefix - first) (drop first filled) store) (e : log_of server v capacity journal first filled store.chunks ≡ empty_log k w n) where
+  nothing : journal ≡ []
+  nothing = ap (λ (log : Log). log.journal) e
+
+  pub no_first : first ≡ 0
+  no_first = sym kept.begin ∙ ap start nothing
+
   no_prefix : prefix ≡ 0
-  no_prefix = ⊎_elim (λ (lt : 0 < prefix). let yes = kept.below 0 lt in
-      let no : is_some (piece_at (stored_slots server v capacity filled store.chunks) 0) ≡ false = ap (λ (log : Log). is_some (piece_at log.slots 0)) e ∙ free_at n 0 in absurd cc)
+  no_prefix = ⊎_elim (λ (lt : 0 < prefix). let yes = kept.reach.below 0 lt in let no : has 0 journal ≡ false = ap (has 0) nothing in absurd cc)
       (λ (le : prefix ≤ 0). omega arith) (cases_lt 0 prefix)
 
   pub widths_are : v ≡ w
@@ -133,11 +149,17 @@ module _ (space prefix server capacity k n : ℕ) (v w : Widths) (journal : List
 
   pub blank_free : IsFree w n store
   blank_free =
-      let have : IsFree v capacity store = record { none = (let s = stored.shared in omega (arith, no_prefix)); places = stored.places } in
-      subst (λ (x : Widths). IsFree x n store) widths_are (subst (λ (m : ℕ). IsFree v m store) capacity_is have)
+      let all : capacity - first ≡ n = omega (arith, no_first, capacity_is) in
+      let have : IsFree v (capacity - first) store = record { none = (let s = stored.shared in omega (arith, no_prefix)); places = stored.places } in
+      subst (λ (x : Widths). IsFree x n store) widths_are (subst (λ (m : ℕ). IsFree v m store) all have)
 
   pub free_again : (new : Store) → IsFree w n new → IsFree v capacity new
   free_again new have = subst (λ (x : Widths). IsFree x capacity new) (sym widths_are) (subst (λ (m : ℕ). IsFree w m new) (sym capacity_is) have)
+
+  -- no place is marked
+  pub unmarked : (place : ℕ) → get_or filled place false ≡ false
+  unmarked place = ⊎_elim (λ (lt : place < capacity). kept.filled_are place lt ∙ ap (has place) nothing)
+      (λ (past : capacity ≤ place). get_or_past filled place false (omega (arith, kept.marks))) (cases_lt place capacity)
 
 -- ---- rows that were taken
 
@@ -170,18 +192,17 @@ pub counted_most : {T E : Type 0} (r : Result T E) (n m : ℕ) → m ≡ cond (i
 counted_most (Ok x) n m e = omega arith
 counted_most (Err x) n m e = omega arith
 
-pub takes : {T E : Type 0} (r : Result T E) (m server capacity k : ℕ) (v w : Widths) (entries : List Entry) (journal : List ℕ) (filled : List Bool) (store : Store)
-    → m ≡ cond (is_ok r) (length entries) 0 → server ≡ k → v ≡ w → capacity ≡ length entries → journal ≡ range_with_len 0 m
-    → ((place : ℕ) (piece : Piece) → piece_at (stored_slots server v capacity filled store.chunks) place ≡ Some piece → (place < m) × (stored_piece server v store.chunks place ≡ piece))
-    → OnOk r (HasPieces w k entries store.chunks) → OnOk r (TakesRows w k entries (log_of server v capacity journal filled store.chunks))
-takes (Err x) m server capacity k v w entries journal filled store e es ew ec j taken has = tt
-takes (Ok x) m server capacity k v w entries journal filled store e es ew ec j taken has = record {
+pub takes : {T E : Type 0} (r : Result T E) (m server capacity first k : ℕ) (v w : Widths) (entries : List Entry) (journal : List ℕ) (filled : List Bool) (store : Store)
+    → m ≡ cond (is_ok r) (length entries) 0 → server ≡ k → v ≡ w → capacity ≡ length entries → first ≡ 0 → journal ≡ range_with_len 0 m → ((place : ℕ) → get_or filled place false ≡ nat_lt place m)
+    → OnOk r (HasPieces w k entries store.chunks) → OnOk r (TakesRows w k entries (log_of server v capacity journal first filled store.chunks))
+takes (Err x) m server capacity first k v w entries journal filled store e es ew ec none j f has = tt
+takes (Ok x) m server capacity first k v w entries journal filled store e es ew ec none j f has = record {
   server = es;
   widths = ew;
   capacity = ec;
   journal = j ∙ ap (range_with_len 0) e;
   pieces = λ place piece d at.
-      let t = taken place piece at in
+      let t = taken_piece server capacity m v filled store.chunks f place piece (ap (λ (slots : List (Option Piece)). piece_at slots place) (sym (slots_all server capacity first v journal filled store.chunks none)) ∙ at) in
       let lt : place < length entries = omega (arith, t.0) in
       let named : stored_piece k w store.chunks place ≡ piece =
       ap (λ (i : ℕ). stored_piece i w store.chunks place) (sym es) ∙ ap (λ (u : Widths). stored_piece server u store.chunks place) (sym ew) ∙ t.1 in (
@@ -192,15 +213,16 @@ takes (Ok x) m server capacity k v w entries journal filled store e es ew ec j t
 }
 
 -- no rows that were taken
-pub takes_none : {T E : Type 0} (r : Result T E) (m server capacity k n : ℕ) (v w : Widths) (journal : List ℕ) (filled : List Bool) (store : Store) (old : Log)
-    → m ≡ cond (is_ok r) n 0 → server ≡ k → v ≡ w → capacity ≡ n → journal ≡ range_with_len 0 m → ((place : ℕ) → get_or filled place false ≡ nat_lt place m) → old ≡ empty_log k w n
-    → OnErr r (log_of server v capacity journal filled store.chunks ≡ old)
-takes_none (Ok x) m server capacity k n v w journal filled store old e es ew ec j f is = tt
-takes_none (Err x) m server capacity k n v w journal filled store old e es ew ec j f is =
-    let none : (place : ℕ) → place < capacity → get_or filled place false ≡ false = λ place lt. f place ∙ ap (nat_lt place) e ∙ never place in
+pub takes_none : {T E : Type 0} (r : Result T E) (m server capacity first k n : ℕ) (v w : Widths) (journal : List ℕ) (filled : List Bool) (store : Store) (old : Log)
+    → m ≡ cond (is_ok r) n 0 → server ≡ k → v ≡ w → capacity ≡ n → first ≡ 0 → journal ≡ range_with_len 0 m → ((place : ℕ) → get_or filled place false ≡ nat_lt place m) → old ≡ empty_log k w n
+    → OnErr r (log_of server v capacity journal first filled store.chunks ≡ old)
+takes_none (Ok x) m server capacity first k n v w journal filled store old e es ew ec none j f is = tt
+takes_none (Err x) m server capacity first k n v w journal filled store old e es ew ec none j f is =
+    let free : (place : ℕ) → place < capacity → get_or filled place false ≡ false = λ place lt. f place ∙ ap (nat_lt place) e ∙ never place in
     let journal_none : journal ≡ [] = j ∙ ap (range_with_len 0) e in
-    ap (λ (l : List ℕ). record { server = server; widths = v; capacity = capacity; journal = l; slots = stored_slots server v capacity filled store.chunks }) journal_none
-    ∙ ap (λ (slots : List (Option Piece)). record { server = server; widths = v; capacity = capacity; journal = []; slots = slots }) (stored_none server v capacity filled store.chunks none)
+    ap (λ (slots : List (Option Piece)). record { server = server; widths = v; capacity = capacity; journal = journal; slots = slots })
+    (slots_all server capacity first v journal filled store.chunks none ∙ stored_none server v capacity filled store.chunks free)
+    ∙ ap (λ (l : List ℕ). record { server = server; widths = v; capacity = capacity; journal = l; slots = (empty_log server v capacity).slots }) journal_none
     ∙ ap (λ (i : ℕ). empty_log i v capacity) es ∙ ap (λ (u : Widths). empty_log k u capacity) ew ∙ ap (empty_log k w) ec ∙ sym is
   where
     never : (place : ℕ) → nat_lt place 0 ≡ false

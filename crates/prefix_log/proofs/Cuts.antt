@@ -1,7 +1,8 @@
 -- The first rows of chunks, and parts of them.
-use Rattle.std.proofs.Common.{◌≡◌, ◌∙◌, refl, sym, ap, subst, ℕ, ◌+◌, ◌-◌, ◌*◌, ◌/◌, ◌%◌, ◌^◌, ◌<◌, ◌≤◌, min, Bool, true, false, cond, eqb, List, [], length, get_or, take, drop, arith}
+use Rattle.std.proofs.Common.{◌≡◌, ◌∙◌, refl, sym, ap, subst, ⊎_elim, ℕ, ◌+◌, ◌-◌, ◌*◌, ◌/◌, ◌%◌, ◌^◌, ◌<◌, ◌≤◌, min, Bool, true, false, cond, eqb, List, [], length, get_or, map, take, drop, arith}
 use Rattle.std.specs.List.{flat_map, range_with_len}
-use Rattle.std.proofs.lemmas.List.{length-take, length-drop, get_or-take, get_or-drop}
+use Rattle.std.proofs.lemmas.Bool.{cases_lt}
+use Rattle.std.proofs.lemmas.List.{drop-map, drop_min, length-take, length-drop, get_or-take, get_or-drop}
 use Rattle.std.proofs.Math.Pow.{pow_mono}
 use Rattle.list_facts.proofs.Listed.{length-listed}
 use Rattle.table_schema.specs.declared.widths.Widths.{Widths}
@@ -76,22 +77,66 @@ is_shelf w rows start chunks few = record {
 
 -- ---- a cut
 
-pub cut_is : (w : Widths) (n rows start : ℕ) (chunks : List (List Halves)) → n ≤ rows → IsCut n (first_rows w rows start chunks) (first_rows w n start chunks)
-cut_is w n rows start chunks le = record {
-  rows = refl;
-  start = refl;
-  columns = refl;
-  width = λ column h. refl;
-  first = λ column h. rows_cut (λ h. h.first) w chunks column n rows le;
-  second = λ column h. rows_cut (λ h. h.second) w chunks column n rows le;
-}
+-- a list without the first ones, or without all of them
+pub first_left : {A B : Type 0} (f : A → B) (items new : List A) (n k : ℕ) → new ≡ drop k items → k ≡ min n (length items) → map f new ≡ drop n (map f items)
+first_left f items new n k is count = ap (map f) (is ∙ ap (λ (i : ℕ). drop i items) count ∙ drop_min n items) ∙ sym (drop-map f n items)
 
-pub cut_is_at : (w w' : Widths) (n n' rows start start' : ℕ) (chunks chunks' : List (List Halves)) → n ≤ rows → w' ≡ w → n' ≡ n → start' ≡ start → chunks' ≡ chunks
-    → IsCut n (first_rows w rows start chunks) (first_rows w' n' start' chunks')
-cut_is_at w w' n n' rows start start' chunks chunks' le a b c d = rw (a, b, c, d) (cut_is w n rows start chunks le)
+module _ (w : Widths) (low high rows : ℕ) (chunks : List (List Halves)) (within : high ≤ rows) (whole : low < high → low % 64 ≡ 0) where
+  kept_row : (half : Halves → List ℕ) (column i : ℕ) → i < high - low → part_at half w (drop (low / 64) chunks) (0 + i) column ≡ part_at half w chunks (low + i) column
+  kept_row half column i lt =
+      let even = whole (omega arith) in
+      let quotient : low / 64 + (0 + i) / 64 ≡ (low + i) / 64 = omega arith in
+      let rest : (0 + i) % 64 ≡ (low + i) % 64 = omega arith in
+      ap (λ (chunk : List Halves). row_cells (width_of w column) (half (halves_at chunk column)) ((0 + i) % 64)) (get_or-drop (low / 64) chunks ((0 + i) / 64) [] ∙ ap (chunk_at chunks) quotient)
+      ∙ ap (row_cells (width_of w column) (half (halves_at (chunk_at chunks ((low + i) / 64)) column))) rest
 
-pub cut_rows : (w : Widths) (n rows : ℕ) (chunks : List (List Halves)) → n ≤ rows → HaveRows w rows chunks → HaveRows w n chunks
-cut_rows w n rows chunks le have = record { count = (let c = have.count in omega arith); each = λ row lt. have.each row (omega arith) }
+  kept_cells : (half : Halves → List ℕ) (column : ℕ) → rows_at half w (drop (low / 64) chunks) (high - low) column ≡ cells_between (width_of w column) low high (rows_at half w chunks rows column)
+  unfolding rows_at
+  kept_cells half column = ⊎_elim
+      (λ (some : low < high).
+      rows_same (λ (i : ℕ). part_at half w (drop (low / 64) chunks) i column) (λ (i : ℕ). part_at half w chunks i column) 0 low (high - low) (kept_row half column)
+      ∙ rows_between half w chunks column low high rows (omega arith) within)
+      (λ (none : high ≤ low).
+      let count : high - low ≡ 0 = omega arith in
+      let zero : 0 * width_of w column ≡ 0 = omega arith in
+      ap (λ (n : ℕ). flat_map (λ (i : ℕ). part_at half w (drop (low / 64) chunks) i column) (range_with_len 0 n)) count
+      ∙ sym (ap (λ (n : ℕ). take (n * width_of w column) (drop (low * width_of w column) (rows_at half w chunks rows column))) count
+      ∙ ap (λ (n : ℕ). take n (drop (low * width_of w column) (rows_at half w chunks rows column))) zero)) (cases_lt low high)
+
+  pub cut_is : (start : ℕ) → IsCut low high (first_rows w rows start chunks) (first_rows w (high - low) start (drop (low / 64) chunks))
+  cut_is start = record {
+    rows = refl;
+    start = refl;
+    columns = refl;
+    width = λ column h. refl;
+    first = λ column h. kept_cells (λ h. h.first) column;
+    second = λ column h. kept_cells (λ h. h.second) column;
+  }
+
+  pub cut_rows : HaveRows w rows chunks → HaveRows w (high - low) (drop (low / 64) chunks)
+  cut_rows have = record {
+    count = (let c = have.count in ⊎_elim (λ (some : low < high). let even = whole some in omega (arith, length-drop (low / 64) chunks)) (λ (none : high ≤ low). omega arith) (cases_lt low high));
+    each = λ row lt.
+        let even = whole (omega arith) in
+        let quotient : (low + row) / 64 ≡ low / 64 + row / 64 = omega arith in
+        let rest : (low + row) % 64 ≡ row % 64 = omega arith in
+        subst (HasRows w (row % 64 + 1)) (ap (chunk_at chunks) quotient ∙ sym (get_or-drop (low / 64) chunks (row / 64) []))
+        (subst (λ (n : ℕ). HasRows w (n + 1) (chunk_at chunks ((low + row) / 64))) rest (have.each (low + row) (omega arith)));
+  }
+
+pub cut_is_at : (w w' : Widths) (from to n rows start start' place : ℕ) (chunks chunks' : List (List Halves)) → to ≤ place + rows → place ≤ from → (from < to → from % 64 ≡ 0) → (0 < rows → place % 64 ≡ 0) → w' ≡ w → n ≡ to - from → start' ≡ start
+    → chunks' ≡ drop ((from - place) / 64) chunks → IsCut (from - place) (to - place) (first_rows w rows start chunks) (first_rows w' n start' chunks')
+cut_is_at w w' from to n rows start start' place chunks chunks' within above even whole a b c d =
+    let count : to - from ≡ (to - place) - (from - place) = omega arith in
+    let aligned = λ (some : from - place < to - place). let p = whole (omega arith) in let q = even (omega arith) in let e : (from - place) % 64 ≡ 0 = omega arith in e in
+    rw (a, b ∙ count, c, d) (cut_is w (from - place) (to - place) rows chunks (omega arith) aligned start)
+
+pub cut_rows_at : (w w' : Widths) (from to n rows place : ℕ) (chunks chunks' : List (List Halves)) → to ≤ place + rows → place ≤ from → (from < to → from % 64 ≡ 0) → (0 < rows → place % 64 ≡ 0) → w' ≡ w → n ≡ to - from
+    → chunks' ≡ drop ((from - place) / 64) chunks → HaveRows w rows chunks → HaveRows w' n chunks'
+cut_rows_at w w' from to n rows place chunks chunks' within above even whole a b d have =
+    let count : to - from ≡ (to - place) - (from - place) = omega arith in
+    let aligned = λ (some : from - place < to - place). let p = whole (omega arith) in let q = even (omega arith) in let e : (from - place) % 64 ≡ 0 = omega arith in e in
+    rw (a, b ∙ count, d) (cut_rows w (from - place) (to - place) rows chunks (omega arith) aligned have)
 
 -- ---- one of the chunks
 

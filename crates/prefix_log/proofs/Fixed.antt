@@ -1,6 +1,6 @@
 -- Snapshots of a log.
 use Rattle.std.proofs.Common.{◌≡◌, ◌∙◌, refl, sym, ap, subst, ℕ, zero, suc, ◌+◌, ◌-◌, ◌*◌, ◌/◌, ◌%◌, ◌<◌, ◌≤◌, ⊎_elim, Bool, true, false, cond, List, ◌∷◌, ◌++◌, length, map, get_or, take, arith}
-use Rattle.std.specs.Prelude.{Some, None, is_some}
+use Rattle.std.specs.Prelude.{Some, None}
 use Rattle.std.specs.List.{flat_map, range_with_len}
 use Rattle.std.proofs.lemmas.Bool.{cases_lt}
 use Rattle.std.proofs.lemmas.List.{length-take, get_or-take}
@@ -10,14 +10,11 @@ use Rattle.list_facts.proofs.Listed.{length-listed, listed_is, listed_same}
 use Rattle.table_schema.specs.declared.widths.Widths.{Widths}
 use Rattle.onehot_column.specs.Code.{width_of, cells_at}
 use Rattle.onehot_column.specs.declared.piece.Piece.{Piece}
-use Rattle.scan_chunks.specs.Shelf.{Held}
-use Rattle.prefix_log.specs.Chunks.{AreFirst, Halves, HasRows, HaveRows, IsCopy, IsStored, Store, chunk_at, first_rows, halves_at, part_at, rows_at, stored_piece, stored_slots}
-use Rattle.prefix_log.specs.Logs.{IsKept, log_of, piece_at}
+use Rattle.prefix_log.specs.Chunks.{AreFirst, Halves, HasRows, HaveRows, IsCopy, chunk_at, first_rows, halves_at, part_at, rows_at, stored_piece, stored_slots}
 use Rattle.prefix_log.specs.RowLists.{row_cells}
 use Rattle.prefix_log.specs.Snapshots.{HoldsPieces, firsts_of, seconds_of, pieces_in}
-use Rattle.prefix_log.proofs.Kept.{prefix_within}
 use Rattle.prefix_log.proofs.Ranges.{rows_same}
-use Rattle.prefix_log.proofs.Stored.{half_part, stored_at, stored_first, stored_length, stored_marks, stored_second}
+use Rattle.prefix_log.proofs.Stored.{half_part, stored_at, stored_first, stored_length, stored_second}
 
 -- ---- the rows of the first chunks and a copy
 
@@ -113,25 +110,3 @@ module _ (k : ℕ) (w : Widths) (capacity rows : ℕ) (filled : List Bool) (chun
       first = λ column le. first_cells column le ∙ ap (λ (l : List Piece). firsts_of w l column) (sym first_pieces);
       second = λ column le. second_cells column le ∙ ap (λ (l : List Piece). seconds_of w l column) (sym first_pieces);
     }
-
--- ---- a log and its store
-
-module _ (space prefix server : ℕ) (w : Widths) (capacity : ℕ) (journal : List ℕ) (filled : List Bool) (store : Store)
-    (kept : IsKept space prefix (log_of server w capacity journal filled store.chunks)) (stored : IsStored w capacity prefix filled store) where
-  pub marks_at : (place : ℕ) → is_some (piece_at (stored_slots server w capacity filled store.chunks) place) ≡ get_or filled place false
-  marks_at = stored_marks server w capacity filled store.chunks stored.marks
-
-  pub all_marked : (place : ℕ) → place < prefix → get_or filled place false ≡ true
-  all_marked place lt = sym (marks_at place) ∙ kept.below place lt
-
-  pub prefix_fits : prefix ≤ capacity
-  prefix_fits = omega (arith, prefix_within space prefix (log_of server w capacity journal filled store.chunks) kept, stored_length server w capacity filled store.chunks)
-
-  pub store_rows : HaveRows w prefix store.chunks
-  store_rows = record { count = (let n = stored.places.count in omega (arith, prefix_fits)); each = λ row lt. stored.rows row (all_marked row lt) }
-
-  pub fixed_holds : (new : List (List Halves)) → AreFirst w prefix store.chunks new → (h : Held) → h ≡ first_rows w prefix 0 new
-      → HoldsPieces w (pieces_in (take h.rows (stored_slots server w capacity filled store.chunks))) h
-  fixed_holds new are h is =
-      subst (λ (g : Held). HoldsPieces w (pieces_in (take g.rows (stored_slots server w capacity filled store.chunks))) g) (sym is)
-      (first_holds server w capacity prefix filled store.chunks prefix_fits all_marked new are)

@@ -1,6 +1,6 @@
 -- Snapshots of rows.
-use Rattle.std.proofs.Common.{◌≡◌, ◌∙◌, sym, ap, ℕ, zero, suc, ◌+◌, ◌*◌, ◌%◌, ◌≤◌, List, [], ◌∷◌, ◌++◌, length, take, arith}
-use Rattle.std.proofs.lemmas.List.{length-take-le, take_all}
+use Rattle.std.proofs.Common.{◌≡◌, ◌∙◌, sym, ap, ℕ, zero, suc, ◌+◌, ◌-◌, ◌*◌, ◌%◌, ◌≤◌, List, [], ◌∷◌, ◌++◌, length, take, drop, arith}
+use Rattle.std.proofs.lemmas.List.{drop_all, length-drop, length-take-le, take_all}
 use Rattle.list_facts.proofs.Listed.{length-listed}
 use Rattle.prg_chacha.specs.declared.seed.Seed.{Seed}
 use Rattle.replicated_share.specs.Share.{share_of}
@@ -9,10 +9,11 @@ use Rattle.table_schema.specs.declared.widths.Widths.{Widths}
 use Rattle.onehot_column.specs.Code.{width_of, cells_at, code_of}
 use Rattle.onehot_column.proofs.CodeLaws.{length-code_of}
 use Rattle.prefix_log.specs.Laws.{CutKeepsRows, SnapshotsKeepRows}
+use Rattle.prefix_log.specs.Rows.{cells_between}
 use Rattle.prefix_log.specs.Snapshots.{shares_of}
 use Rattle.prefix_log.proofs.Columns.{cells_wide}
 use Rattle.prefix_log.proofs.Pieces.{sharings_give_cells}
-use Rattle.prefix_log.proofs.Ranges.{take_past}
+use Rattle.prefix_log.proofs.Ranges.{drop_past, take_past}
 
 pub snapshots_keep_rows : SnapshotsKeepRows
 snapshots_keep_rows w k n entries slots h shares le holds =
@@ -46,14 +47,28 @@ first_shares w k column (suc n) (e ∷ es) ok =
     take_past (cells_at w column (share_of k e.1 (code_of w e.0))) (shares_of w k es column) (suc n * width_of w column) (n * width_of w column) (omega (arith, wide, more))
     ∙ ap (λ (l : List ℕ). cells_at w column (share_of k e.1 (code_of w e.0)) ++ l) (first_shares w k column n es ok)
 
+-- and without the first ones the others
+last_shares : (w : Widths) (k column n : ℕ) (entries : List (Row × Seed)) → column ≤ w.columns → drop (n * width_of w column) (shares_of w k entries column) ≡ shares_of w k (drop n entries) column
+last_shares w k column zero entries ok = let none : 0 * width_of w column ≡ 0 = omega arith in ap (λ (i : ℕ). drop i (shares_of w k entries column)) none
+last_shares w k column (suc n) [] ok = drop_all (suc n * width_of w column) [] (omega arith)
+last_shares w k column (suc n) (e ∷ es) ok =
+    let wide = row_wide w k column e ok in
+    let more : (n + 1) * width_of w column ≡ width_of w column + n * width_of w column = omega arith in
+    drop_past (cells_at w column (share_of k e.1 (code_of w e.0))) (shares_of w k es column) (suc n * width_of w column) (n * width_of w column) (omega (arith, wide, more))
+    ∙ last_shares w k column n es ok
+
+between_shares : (w : Widths) (k column low high : ℕ) (entries : List (Row × Seed)) → column ≤ w.columns → cells_between (width_of w column) low high (shares_of w k entries column) ≡ shares_of w k (take (high - low) (drop low entries)) column
+between_shares w k column low high entries ok =
+    ap (take ((high - low) * width_of w column)) (last_shares w k column low entries ok) ∙ first_shares w k column (high - low) (drop low entries) ok
+
 pub cut_keeps_rows : CutKeepsRows
-cut_keeps_rows w k n entries old new keeps le cut = record {
-  rows = cut.rows ∙ sym (length-take-le n entries le);
+cut_keeps_rows w k low high entries old new keeps le cut = record {
+  rows = cut.rows ∙ sym (length-take-le (high - low) (drop low entries) (omega (arith, length-drop low entries)));
   start = cut.start ∙ keeps.start;
   columns = cut.columns ∙ keeps.columns;
   width = λ column ok. cut.width column (omega (arith, keeps.columns)) ∙ keeps.width column ok;
-  first = λ column ok. cut.first column (omega (arith, keeps.columns)) ∙ ap (λ (m : ℕ). take (n * m) (old.pieces.first column)) (keeps.width column ok)
-      ∙ ap (take (n * width_of w column)) (keeps.first column ok) ∙ first_shares w k column n entries ok;
-  second = λ column ok. cut.second column (omega (arith, keeps.columns)) ∙ ap (λ (m : ℕ). take (n * m) (old.pieces.second column)) (keeps.width column ok)
-      ∙ ap (take (n * width_of w column)) (keeps.second column ok) ∙ first_shares w ((k + 1) % 3) column n entries ok;
+  first = λ column ok. cut.first column (omega (arith, keeps.columns)) ∙ ap (λ (m : ℕ). cells_between m low high (old.pieces.first column)) (keeps.width column ok)
+      ∙ ap (cells_between (width_of w column) low high) (keeps.first column ok) ∙ between_shares w k column low high entries ok;
+  second = λ column ok. cut.second column (omega (arith, keeps.columns)) ∙ ap (λ (m : ℕ). cells_between m low high (old.pieces.second column)) (keeps.width column ok)
+      ∙ ap (cells_between (width_of w column) low high) (keeps.second column ok) ∙ between_shares w ((k + 1) % 3) column low high entries ok;
 }

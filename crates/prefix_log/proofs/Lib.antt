@@ -1,3 +1,4 @@
+pub mod Acts
 pub mod Appended
 pub mod Filled
 pub mod Columns
@@ -6,13 +7,15 @@ pub mod Fixed
 pub mod Journals
 pub mod Keeping
 pub mod Kept
+pub mod Leading
 pub mod Logged
+pub mod Marked
 pub mod Parts
 pub mod Pieces
-pub mod Placings
 pub mod Prefixes
 pub mod Ranges
 pub mod Sealed
+pub mod Starts
 pub mod Stored
 pub mod Whole
 pub mod Written

@@ -1,11 +1,12 @@
 -- Chunks that are sealed one after another, and those that are still open, the last one first.
-use Rattle.std.proofs.Common.{◌≡◌, ◌≢◌, ◌∙◌, refl, sym, ap, subst, ℕ, ◌+◌, ◌-◌, ◌*◌, ◌/◌, ◌%◌, ◌<◌, ◌≤◌, ⊎_elim, min, List, [], ◌∷◌, ◌++◌, length, reverse, get_or, set, arith}
+use Rattle.std.proofs.Common.{◌≡◌, ◌≢◌, ◌∙◌, refl, sym, ap, subst, ℕ, ◌+◌, ◌-◌, ◌*◌, ◌/◌, ◌%◌, ◌<◌, ◌≤◌, ⊎_elim, min, List, [], ◌∷◌, ◌++◌, length, reverse, take, drop, get_or, set, arith}
 use Rattle.std.proofs.lemmas.Bool.{cases_lt}
-use Rattle.std.proofs.lemmas.List.{length-append, length-reverse, length-set, length_push, get_or_append_left, get_or-append_right, get_or_past, get_or_push, get_or-reverse, get_or-set_same, get_or-set_other}
+use Rattle.std.proofs.lemmas.List.{drop-append-le, drop_all, drop_at, length-append, length-drop, length-reverse, reverse-append, take-append-drop, take_all, length-set, length_push, get_or_append_left, get_or-append_right, get_or_past, get_or_push, get_or-reverse, get_or-set_same, get_or-set_other}
 use Rattle.table_schema.specs.declared.widths.Widths.{Widths}
 use Rattle.scan_chunks.specs.Pieces.{chunks_of}
 use Rattle.prefix_log.specs.Chunks.{AreFirst, Halves, HalvesWritten, HasRows, HaveRows, IsCopy, PlaceWritten, RowWritten, chunk_at, halves_at}
 use Rattle.prefix_log.proofs.Cuts.{chunk_rows}
+use Rattle.prefix_log.proofs.Ranges.{drop_past}
 
 -- ---- columns
 
@@ -122,6 +123,31 @@ module _ (w : Widths) (rows : ℕ) (sealed rest : List (List Halves)) (are : len
             subst (λ (chunk : List Halves). IsCopy w (rows % 64) chunk (chunk_at (sealed ++ x ∷ []) (rows / 64))) (sym (open_at sealed rest (rows / 64) (omega arith) (omega arith) ∙ ap (λ (i : ℕ). get_or rest i []) behind))
             (subst (IsCopy w (rows % 64) (get_or rest (length rest - 1) [])) (sym (get_or_push sealed x [] (rows / 64) are)) copy);
       }
+
+-- ---- without the first chunks
+
+-- the last ones of a list, the last one first
+drop_reversed : (k : ℕ) (xs : List (List Halves)) → k ≤ length xs → drop k (reverse xs) ≡ reverse (take (length xs - k) xs)
+drop_reversed k xs le =
+    let front : length (reverse (drop (length xs - k) xs)) ≡ k = omega (arith, length-reverse (drop (length xs - k) xs), length-drop (length xs - k) xs) in
+    ap (λ (l : List (List Halves)). drop k (reverse l)) (sym (take-append-drop (length xs - k) xs))
+    ∙ ap (drop k) (reverse-append (take (length xs - k) xs) (drop (length xs - k) xs))
+    ∙ drop_at (reverse (drop (length xs - k) xs)) (reverse (take (length xs - k) xs)) k front
+
+pub all_dropped : (count m n : ℕ) (sealed rest : List (List Halves)) → count ≤ length sealed + length rest → m ≡ min count (length sealed) → n ≡ length rest - (count - m)
+    → drop m sealed ++ reverse (take n rest) ≡ drop count (sealed ++ reverse rest)
+all_dropped count m n sealed rest le is left = ⊎_elim
+    (λ (more : length sealed < count).
+    let all : m ≡ length sealed = omega arith in
+    let past : n ≡ length rest - (count - length sealed) = omega arith in
+    ap (λ (i : ℕ). drop i sealed ++ reverse (take n rest)) all ∙ ap (λ (l : List (List Halves)). l ++ reverse (take n rest)) (drop_all (length sealed) sealed (omega arith))
+    ∙ ap (λ (i : ℕ). reverse (take i rest)) past ∙ sym (drop_reversed (count - length sealed) rest (omega arith))
+    ∙ sym (drop_past sealed (reverse rest) count (count - length sealed) (omega arith)))
+    (λ (few : count ≤ length sealed).
+    let same : m ≡ count = omega arith in
+    let whole : length rest ≤ n = omega arith in
+    ap (λ (i : ℕ). drop i sealed ++ reverse (take n rest)) same ∙ ap (λ (l : List (List Halves)). drop count sealed ++ reverse l) (take_all n rest whole)
+    ∙ sym (drop-append-le count sealed (reverse rest) few)) (cases_lt (length sealed) count)
 
 -- ---- free chunks
 

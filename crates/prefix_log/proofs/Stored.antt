@@ -1,8 +1,8 @@
 -- The pieces that chunks store.
-use Rattle.std.proofs.Common.{◌≡◌, ◌≢◌, ◌∙◌, refl, sym, ap, subst, ℕ, ◌+◌, ◌*◌, ◌/◌, ◌%◌, ◌<◌, ◌≤◌, ◌⊎◌, ⊎_elim, Bool, true, false, cond, List, length, get_or, set, arith}
+use Rattle.std.proofs.Common.{◌≡◌, ◌≢◌, ◌∙◌, refl, sym, ap, subst, ℕ, ◌+◌, ◌-◌, ◌*◌, ◌/◌, ◌%◌, ◌<◌, ◌≤◌, ◌⊎◌, ⊎_elim, Bool, true, false, cond, List, [], length, drop, get_or, set, arith}
 use Rattle.std.specs.Prelude.{Some, None, is_some}
 use Rattle.std.proofs.lemmas.Bool.{cases_lt, cases_order}
-use Rattle.std.proofs.lemmas.List.{ext_get_or, get_or-set_same, get_or-set_other, get_or_past, length-set}
+use Rattle.std.proofs.lemmas.List.{ext_get_or, get_or-drop, get_or-set_same, get_or-set_other, get_or_past, length-drop, length-set}
 use Rattle.std.proofs.lemmas.Nat.{mul-le}
 use native.Mathlib.Nat.{ℕ_set}
 use Rattle.list_facts.specs.Listed.{listed}
@@ -87,6 +87,36 @@ pub stored_none : (k : ℕ) (w : Widths) (capacity : ℕ) (filled : List Bool) (
     → stored_slots k w capacity filled chunks ≡ listed capacity (λ (place : ℕ). None)
 unfolding stored_slots
 stored_none k w capacity filled chunks none = listed_same capacity _ (λ (place : ℕ). None) (λ place lt. ap (λ (b : Bool). cond b (Some (stored_piece k w chunks place)) None) (none place lt))
+
+-- ---- chunks without the first ones
+
+module _ (w : Widths) (d : ℕ) (chunks : List (List Halves)) (whole : d % 64 ≡ 0) where
+  part_dropped : (half : Halves → List ℕ) (x c : ℕ) → part_at half w chunks (d + x) c ≡ part_at half w (drop (d / 64) chunks) x c
+  part_dropped half x c =
+      let quotient : (d + x) / 64 ≡ d / 64 + x / 64 = omega arith in
+      let rest : (d + x) % 64 ≡ x % 64 = omega arith in
+      ap (λ (j : ℕ). row_cells (width_of w c) (half (halves_at (chunk_at chunks j) c)) ((d + x) % 64)) quotient
+      ∙ ap (λ (r : ℕ). row_cells (width_of w c) (half (halves_at (chunk_at chunks (d / 64 + x / 64)) c)) r) rest
+      ∙ ap (λ (chunk : List Halves). row_cells (width_of w c) (half (halves_at chunk c)) (x % 64)) (sym (get_or-drop (d / 64) chunks (x / 64) []))
+
+  half_dropped : (half : Halves → List ℕ) (x : ℕ) → half_at half w chunks (d + x) ≡ half_at half w (drop (d / 64) chunks) x
+  half_dropped half x = rows_same (part_at half w chunks (d + x)) (part_at half w (drop (d / 64) chunks) x) 0 0 (w.columns + 1) (λ c lt. part_dropped half x (0 + c))
+
+  piece_dropped : (k x : ℕ) → stored_piece k w chunks (d + x) ≡ stored_piece k w (drop (d / 64) chunks) x
+  piece_dropped k x = same_piece (stored_piece k w chunks (d + x)) (stored_piece k w (drop (d / 64) chunks) x) (stored_server k w chunks (d + x) ∙ sym (stored_server k w (drop (d / 64) chunks) x))
+      (stored_first k w chunks (d + x) ∙ half_dropped (λ h. h.first) x ∙ sym (stored_first k w (drop (d / 64) chunks) x))
+      (stored_second k w chunks (d + x) ∙ half_dropped (λ h. h.second) x ∙ sym (stored_second k w (drop (d / 64) chunks) x))
+
+  pub slots_dropped : (k capacity : ℕ) (filled : List Bool) → d ≤ capacity → drop d (stored_slots k w capacity filled chunks) ≡ stored_slots k w (capacity - d) (drop d filled) (drop (d / 64) chunks)
+  slots_dropped k capacity filled le =
+      let long : length (drop d (stored_slots k w capacity filled chunks)) ≡ capacity - d = omega (arith, length-drop d (stored_slots k w capacity filled chunks), stored_length k w capacity filled chunks) in
+      ext_get_or None (drop d (stored_slots k w capacity filled chunks)) (stored_slots k w (capacity - d) (drop d filled) (drop (d / 64) chunks)) (long ∙ sym (stored_length k w (capacity - d) (drop d filled) (drop (d / 64) chunks)))
+      (λ x below.
+      let less : x < capacity - d = omega (arith, long, below) in
+      get_or-drop d (stored_slots k w capacity filled chunks) x None ∙ stored_at k w capacity filled chunks (d + x) (omega arith)
+      ∙ ap (λ (b : Bool). cond b (Some (stored_piece k w chunks (d + x))) None) (sym (get_or-drop d filled x false))
+      ∙ ap (λ (p : Piece). cond (get_or (drop d filled) x false) (Some p) None) (piece_dropped k x)
+      ∙ sym (stored_at k w (capacity - d) (drop d filled) (drop (d / 64) chunks) x less))
 
 -- ---- a piece that was written
 

@@ -1,7 +1,7 @@
 -- Stores that stay stores where pieces are written.
-use Rattle.std.proofs.Common.{◌≡◌, ◌≢◌, ◌∙◌, sym, ap, subst, ℕ, ◌+◌, ◌-◌, ◌*◌, ◌/◌, ◌%◌, ◌<◌, ◌≤◌, ◌⊎◌, ⊎_elim, min, Bool, true, false, List, length, get_or, set, replicate, arith}
+use Rattle.std.proofs.Common.{◌≡◌, ◌≢◌, ◌∙◌, sym, ap, subst, ℕ, ◌+◌, ◌-◌, ◌*◌, ◌/◌, ◌%◌, ◌<◌, ◌≤◌, ◌⊎◌, ⊎_elim, min, Bool, true, false, List, [], length, drop, get_or, set, replicate, arith}
 use Rattle.std.proofs.lemmas.Bool.{cases_lt, cases_order}
-use Rattle.std.proofs.lemmas.List.{length-set, length-replicate, get_or_past, get_or-replicate, get_or-set_other}
+use Rattle.std.proofs.lemmas.List.{length-drop, length-set, length-replicate, get_or-drop, get_or_past, get_or-replicate, get_or-set_other}
 use Rattle.std.proofs.lemmas.Nat.{mul-le}
 use Rattle.table_schema.specs.Widths.{code_length, column_bits}
 use Rattle.table_schema.specs.declared.widths.Widths.{Widths}
@@ -85,6 +85,28 @@ written_stored w capacity prefix next place filled first second old new stored i
 
     other : (x : ℕ) → get_or (set filled place true) x false ≡ true → x ≢ place → HasRows w (x % 64 + 1) (chunk_at new.chunks (x / 64))
     other x marked ne = written_rows w place first second old.chunks new.chunks is (x % 64 + 1) (x / 64) (stored.rows x (sym (get_or-set_other filled place x true false ne) ∙ marked))
+
+-- a store without the first chunks
+pub stored_dropped : (w : Widths) (capacity upto d : ℕ) (filled : List Bool) (old new : Store) → IsStored w capacity upto filled old → d % 64 ≡ 0 → d ≤ upto → upto ≤ capacity
+    → new.chunks ≡ drop (d / 64) old.chunks → new.sealed ≡ old.sealed - d / 64 → IsStored w (capacity - d) (upto - d) (drop d filled) new
+stored_dropped w capacity upto d filled old new stored whole le fits chunks sealed = record {
+  marks = omega (arith, length-drop d filled, stored.marks);
+  places = subst (HavePlaces w (capacity - d)) (sym chunks) (record {
+    count = (let n = stored.places.count in omega (arith, length-drop (d / 64) old.chunks));
+    room = λ j lt.
+        let there : d / 64 + j < length old.chunks = omega (arith, length-drop (d / 64) old.chunks) in
+        let left : min 64 (capacity - 64 * (d / 64 + j)) ≡ min 64 (capacity - d - 64 * j) = omega arith in
+        subst (λ (n : ℕ). HasRoom w n (chunk_at (drop (d / 64) old.chunks) j)) left
+        (subst (HasRoom w (min 64 (capacity - 64 * (d / 64 + j)))) (sym (get_or-drop (d / 64) old.chunks j [])) (stored.places.room (d / 64 + j) there));
+  });
+  rows = λ place marked.
+      let quotient : (d + place) / 64 ≡ d / 64 + place / 64 = omega arith in
+      let rest : (d + place) % 64 ≡ place % 64 = omega arith in
+      subst (λ (all : List (List Halves)). HasRows w (place % 64 + 1) (chunk_at all (place / 64))) (sym chunks)
+      (subst (HasRows w (place % 64 + 1)) (ap (chunk_at old.chunks) quotient ∙ sym (get_or-drop (d / 64) old.chunks (place / 64) []))
+      (subst (λ (n : ℕ). HasRows w (n + 1) (chunk_at old.chunks ((d + place) / 64))) rest (stored.rows (d + place) (sym (get_or-drop d filled place false) ∙ marked))));
+  shared = (let s = stored.shared in omega arith);
+}
 
 -- no marks
 pub none_marked : (n : ℕ) (filled : List Bool) → filled ≡ replicate n false → (place : ℕ) → get_or filled place false ≡ false

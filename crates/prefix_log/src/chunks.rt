@@ -1,5 +1,5 @@
 //! The cells of all places, by chunks of 64.
-ghost use Rattle.std.specs.Prelude.{◌≡◌, ◌+◌, ◌*◌, ◌/◌, ◌%◌, ◌<◌, ◌≤◌, IfOk, OnOk, OnErr, length, map, reverse, All};
+ghost use Rattle.std.specs.Prelude.{◌≡◌, ◌+◌, ◌-◌, ◌*◌, ◌/◌, ◌%◌, ◌<◌, ◌≤◌, IfOk, OnOk, OnErr, drop, length, map, reverse, vec_capacity, All};
 ghost use Rattle.std.specs.Arc.{arc_value};
 ghost use Rattle.onehot_column.specs.Piece.{HasWidths};
 ghost use Rattle.scan_chunks.specs.Pieces.{chunks_of};
@@ -64,6 +64,18 @@ impl Chunks {
     {
         let behind = self.sealed.len() + self.unsealed.len() - 1 - (place / 64) as usize;
         self.unsealed[behind].write(widths, (place % 64) as usize, piece);
+    }
+
+    // Lets go of the first chunks. Where a snapshot shares one, it keeps it. Nothing is copied.
+    pub fn let_go(&mut self, count: usize)
+        requires { count ≤ length self.old.chunks }
+        ensures chunks { self.new.chunks ≡ drop count self.old.chunks }
+        ensures sealed { self.new.sealed ≡ self.old.sealed - count }
+    {
+        let sealed = count.min(self.sealed.len());
+        drop_first(&mut self.sealed, sealed);
+        self.unsealed
+            .truncate(self.unsealed.len() - (count - sealed));
     }
 
     // Seals chunks until `count` are. No cell is copied. Out of memory some of them may be sealed.
@@ -159,6 +171,16 @@ pub(crate) fn shared(
         again.push(Arc::try_clone(chunk)?)?;
     }
     Ok(again)
+}
+
+// Drops the first chunks.
+pub(crate) fn drop_first(chunks: &mut Vec<Arc<Chunk>>, count: usize)
+    requires { count ≤ length chunks.old.items }
+    ensures items { chunks.new.items ≡ drop count chunks.old.items }
+    ensures room { vec_capacity chunks.new ≡ vec_capacity chunks.old }
+{
+    chunks.rotate_left(count);
+    chunks.truncate(chunks.len() - count);
 }
 
 // Writes the pieces of as many rows as there are places into the chunks of three servers, by `workers` threads. The only error is

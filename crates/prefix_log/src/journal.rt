@@ -32,6 +32,7 @@ fn holds(journal: &[u64], place: u64) -> bool
 pub(crate) fn first_gap(filled: &[bool], from: usize) -> usize
     requires { from ≤ length filled.now }
     ensures later { from ≤ result }
+    ensures within { result ≤ length filled.now }
     ensures below { (place : ℕ) → from ≤ place → place < result → slice_index_or filled.now place false ≡ true }
     ensures gap { slice_index_or filled.now result false ≡ false }
 {

@@ -1,11 +1,12 @@
-ghost use Rattle.std.specs.Prelude.{◌≡◌, ℕ, ◌<◌, ◌≤◌, false, nat_lt, if◌then◌else◌, All, IfOk};
-ghost use Rattle.std.specs.Prelude.{OnErr, OnOk, [], length, slice_index_or, take, vec_capacity};
+ghost use Rattle.std.specs.Prelude.{◌≡◌, ℕ, ◌+◌, ◌<◌, ◌≤◌, false, nat_lt, if◌then◌else◌, All, IfOk};
+ghost use Rattle.std.specs.Prelude.{OnErr, OnOk, [], drop, length, slice_index_or, take, vec_capacity};
 ghost use Rattle.std.specs.List.{range_with_len};
 ghost use Rattle.table_schema.specs.Widths.{Fits, Holds, column_bits};
 ghost use Rattle.prefix_log.specs.Bulk.{TakesRows};
-ghost use Rattle.prefix_log.specs.Journal.{IsPrefixOf};
-ghost use Rattle.prefix_log.specs.Logs.{IsLog, IsOwn, empty_log, placed};
+ghost use Rattle.prefix_log.specs.Journal.{IsPrefixOf, start as start_in};
+ghost use Rattle.prefix_log.specs.Logs.{IsLog, IsOwn, empty_log, placed, retired};
 ghost use Rattle.prefix_log.specs.Snapshots.{HoldsPieces, pieces_in};
+ghost use Rattle.prefix_log.specs.Starts.{start_of};
 
 use crate::bulk::Entry;
 use crate::chunks::{Chunks, fill_three};
@@ -21,10 +22,13 @@ use std::marker::Model;
 use std::thread::Threads;
 use table_schema::Widths;
 
-/// What a server has of a table: the pieces that came to its places, and the order in which the places were filled.
+// Entries of a journal from this number on are marks: a start was added to it.
+const MARK: u64 = 4_294_967_296;
+
+/// What a server has of a table: the pieces that came to its places, and the order in which the places were filled and retired.
 ///
 /// Contracts see it as its server, the widths and the capacity that it was made with, the journal, and the slots, at
-/// each place the piece that came there first.
+/// each place that is not retired the piece that came there first.
 #[derive(Drop)]
 pub struct ServerLog {
     server: u8,
@@ -34,20 +38,21 @@ pub struct ServerLog {
     filled: Vec<bool>,
     chunks: Chunks,
     prefix: u64,
+    start: u64,
 }
 
 impl Model for ServerLog {
-    ghost use Rattle.std.specs.Prelude.{vec_capacity};
+    ghost use Rattle.std.specs.Prelude.{◌-◌, drop, vec_capacity};
     ghost use Rattle.prefix_log.specs.Chunks.{IsStored};
     ghost use Rattle.prefix_log.specs.Logs.{Log, IsKept, log_of};
 
     ghost Value = { Log };
 
-    ghost view = { λ s. log_of s.server s.widths s.capacity s.journal.items s.filled.items s.chunks.chunks };
+    ghost view = { λ s. log_of s.server s.widths s.capacity s.journal.items s.start s.filled.items s.chunks.chunks };
 
-    ghost invariant = { λ s. IsKept (vec_capacity s.journal) s.prefix
-        (log_of s.server s.widths s.capacity s.journal.items s.filled.items s.chunks.chunks)
-        × IsStored s.widths s.capacity s.prefix s.filled.items s.chunks };
+    ghost invariant = { λ s. IsKept (vec_capacity s.journal) s.prefix s.start s.filled.items
+        (log_of s.server s.widths s.capacity s.journal.items s.start s.filled.items s.chunks.chunks)
+        × IsStored s.widths (s.capacity - s.start) (s.prefix - s.start) (drop s.start s.filled.items) s.chunks };
 }
 
 impl Journaled for ServerLog {
@@ -80,15 +85,16 @@ impl ServerLog {
             server,
             widths: *widths,
             capacity,
-            journal: Vec::with_capacity(alloc, capacity as usize)?,
+            journal: Vec::with_capacity(alloc, capacity as usize + capacity as usize / 64)?,
             filled: vec![in alloc; false; capacity as usize]?,
             chunks: Chunks::new(alloc, widths, capacity)?,
             prefix: 0,
+            start: 0,
         })
     }
 
-    /// Puts a piece at a place, if the place is free; the journal then gains the place at its end. A place that has a
-    /// piece keeps it: nothing changes, and the new piece is dropped. It takes no memory.
+    /// Puts a piece at a place, if the place is free; the journal then gains the place at its end. A place that is in the
+    /// journal, retired or not, stays as it is: nothing changes, and the new piece is dropped. It takes no memory.
     pub fn place(&mut self, place: u64, piece: Piece)
         requires below { place < self.old.capacity }
         requires own { IsOwn self.old.server self.old.widths piece }
@@ -101,20 +107,50 @@ impl ServerLog {
         if self.filled[place as usize] {
             return;
         }
-        self.chunks.write(&self.widths, place, &piece);
+        self.chunks.write(&self.widths, place - self.start, &piece);
         self.filled[place as usize] = true;
         self.journal.push_reserved(place);
         self.prefix = first_gap(self.filled.as_slice(), self.prefix as usize) as u64;
     }
 
-    /// The places that have a piece, in the order in which they were filled.
+    /// Retires the places below a number, in whole chunks of 64 and none from the prefix on. Where the start rises by this,
+    /// the journal gains its mark at its end, and the pieces below it are let go; a snapshot that has them keeps them. Else
+    /// nothing changes. Returns the start. It takes no memory.
+    pub fn retire(&mut self, before: u64) -> u64
+        ensures retired { self.new ≡ retired self.old before }
+        ensures start { result ≡ start_in self.new.journal }
+        ensures server { self.new.server ≡ self.old.server }
+        ensures widths { self.new.widths ≡ self.old.widths }
+        ensures capacity { self.new.capacity ≡ self.old.capacity }
+        ensures legal { IsLog self.new }
+    {
+        let start = 64 * (before.min(self.prefix) / 64);
+        if start <= self.start {
+            return self.start;
+        }
+        self.chunks.let_go((start - self.start) as usize / 64);
+        self.journal.push_reserved(MARK + start);
+        self.start = start;
+        start
+    }
+
+    /// The first place that is not retired: a multiple of 64, and 0 where none is.
+    pub fn start(&self) -> u64
+        ensures value { result ≡ start_in self.now.journal }
+        ensures legal { IsLog self.now }
+    {
+        self.start
+    }
+
+    /// What was done to the places, in that order: the entry of a place says that it was filled, and the entry
+    /// 4,294,967,296 + s that the places below s were retired.
     pub fn journal(&self) -> &[u64]
         ensures { result.now ≡ self.now.journal }
     {
         self.journal.as_slice()
     }
 
-    /// How many of the first places have a piece: the largest number such that each place below it is in the journal.
+    /// How many of the first places were filled: the largest number such that each place below it is in the journal.
     pub fn prefix(&self) -> u64
         ensures prefix { IsPrefixOf self.now.journal result }
         ensures legal { IsLog self.now }
@@ -122,21 +158,22 @@ impl ServerLog {
         self.prefix
     }
 
-    /// A snapshot of the pieces at the places below the prefix, a row each, without visits yet. Its first chunk has the
-    /// number 0. It shares the whole chunks with the log and copies the rest, fewer than 64 rows. The only error is out
-    /// of memory; in every case the log stays.
+    /// A snapshot of the pieces at the places from the start to below the prefix, a row each, without visits yet. Its first
+    /// chunk has the number 0. It shares the whole chunks with the log and copies the rest, fewer than 64 rows. The only
+    /// error is out of memory; in every case the log stays.
     pub fn fix(&mut self, alloc: Global) -> Result<Snapshot, Memory>
         ensures stays { self.new ≡ self.old }
         ensures legal { IsLog self.old }
-        ensures rows { IfOk result (λ s. IsPrefixOf self.old.journal (⟦<Snapshot as Shelf>⟧.held s).rows) }
+        ensures start { IfOk result (λ s. start_of s ≡ start_in self.old.journal) }
+        ensures rows { IfOk result (λ s. IsPrefixOf self.old.journal (start_of s + (⟦<Snapshot as Shelf>⟧.held s).rows)) }
         ensures pieces { IfOk result (λ s. let h = ⟦<Snapshot as Shelf>⟧.held s in
-            HoldsPieces self.old.widths (pieces_in (take h.rows self.old.slots)) h) }
+            HoldsPieces self.old.widths (pieces_in (take h.rows (drop (start_of s) self.old.slots))) h) }
         ensures visits { IfOk result (λ s. ⟦<Snapshot as Shelf>⟧.visited s ≡ []) }
     {
-        let rows = self.prefix;
+        let rows = self.prefix - self.start;
         self.chunks.seal(alloc, rows / 64)?;
         let chunks = self.chunks.first(alloc, &self.widths, rows)?;
-        Ok(Snapshot::new(alloc, self.widths, rows, 0, chunks))
+        Ok(Snapshot::new(alloc, self.widths, rows, 0, self.start, chunks))
     }
 }
 

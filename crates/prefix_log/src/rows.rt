@@ -1,5 +1,5 @@
-//! The first rows of some chunks.
-ghost use Rattle.std.specs.Prelude.{◌≡◌, ◌<◌, ◌≤◌, ◌+◌, ◌-◌, ◌/◌, IfOk, drop, length, map, take};
+//! Rows of a log, by chunks of 64.
+ghost use Rattle.std.specs.Prelude.{◌≡◌, ◌<◌, ◌≤◌, ◌+◌, ◌-◌, ◌/◌, ◌%◌, ◌^◌, IfOk, drop, length, map, take};
 ghost use Rattle.std.specs.Arc.{arc_value};
 ghost use Rattle.onehot_column.specs.Code.{width_of};
 ghost use Rattle.scan_chunks.specs.Pieces.{chunk_of, chunks_of};
@@ -7,7 +7,7 @@ ghost use Rattle.scan_chunks.specs.Shelf.{IsShelf};
 ghost use Rattle.prefix_log.specs.Chunks.{HaveRows, first_rows};
 
 use crate::chunk::Chunk;
-use crate::chunks::shared;
+use crate::chunks::{drop_first, shared};
 use crate::code::width;
 use ring128::Memory;
 use scan_chunks::Lent;
@@ -15,14 +15,17 @@ use std::alloc::Global;
 use std::sync::Arc;
 use table_schema::Widths;
 
-// Rows of these widths, and the number of their first chunk.
+// Rows of these widths, the number of their first chunk, and the place of the first row.
 #[derive(Drop)]
 pub(crate) struct Rows {
     pub count: u64,
     pub start: u32,
+    pub place: u64,
     pub widths: Widths,
     pub chunks: Vec<Arc<Chunk>>,
     pub ghost few: { start + chunks_of count ≤ 1024 },
+    pub ghost whole: { 0 < count → place % 64 ≡ 0 },
+    pub ghost reach: { place + count < 2 ^ 64 },
     pub ghost there: { HaveRows widths count (map arc_value chunks.items) },
 }
 
@@ -43,15 +46,21 @@ impl Rows {
         width(&self.widths, column)
     }
 
-    // Keeps the first rows alone.
-    pub fn cut(&mut self, count: u64)
-        requires { count ≤ self.old.count }
-        ensures count { self.new.count ≡ count }
+    // Keeps the rows at the places from one to below another, and lets go of the chunks before them. It takes no memory.
+    pub fn cut(&mut self, from: u64, to: u64)
+        requires whole { from < to → from % 64 ≡ 0 }
+        requires from { self.old.place ≤ from }
+        requires to { to ≤ self.old.place + self.old.count }
+        ensures count { self.new.count ≡ to - from }
         ensures start { self.new.start ≡ self.old.start }
+        ensures place { self.new.place ≡ from }
         ensures widths { self.new.widths ≡ self.old.widths }
-        ensures chunks { self.new.chunks.items ≡ self.old.chunks.items }
+        ensures chunks { map arc_value self.new.chunks.items ≡ drop ((from - self.old.place) / 64) (map arc_value self.old.chunks.items) }
     {
-        self.count = count;
+        let skipped = ((from - self.place) / 64).min(self.chunks.len() as u64);
+        drop_first(&mut self.chunks, skipped as usize);
+        self.count = to.saturating_sub(from);
+        self.place = from;
     }
 
     // A chunk of a column.

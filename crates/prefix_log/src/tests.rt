@@ -92,7 +92,8 @@ fn a_place_keeps_its_first_piece(rt: HostRuntime) -> Result<(), Memory> {
     let after = scan(&rt, alloc, &mut snapshot)?;
     assert_eq!(rt; before.as_slice(), after.as_slice());
     assert_eq!(rt; snapshot.rows(), 2);
-    snapshot.cut(1);
+    assert_eq!(rt; snapshot.start(), 0);
+    snapshot.cut(0, 1);
     assert_eq!(rt; (snapshot.rows(), snapshot.visits().len()), (1, 1));
     let cut = scan(&rt, alloc, &mut snapshot)?;
     assert!(rt; after.as_slice().starts_with(cut.as_slice()) && cut.len() == 1);
@@ -133,6 +134,86 @@ fn a_snapshot_stays_as_it_was(rt: HostRuntime) -> Result<(), Memory> {
     assert_eq!(rt; before.as_slice(), after.as_slice());
     let all = scan(&rt, alloc, &mut second)?;
     assert!(rt; all.len() == 129 && all.as_slice().starts_with(before.as_slice()));
+    Ok(())
+}
+
+#[test]
+fn whole_chunks_below_the_prefix_are_retired(rt: HostRuntime) -> Result<(), Memory> {
+    let alloc = rt.alloc();
+    let widths = WIDTHS;
+    let mut log = log(&rt, alloc, &widths, 130)?;
+    fill(&rt, alloc, &widths, &mut log, 0, 129)?;
+    assert_eq!(rt;
+        (log.retire(63), log.retire(64), log.retire(65)),
+        (0, 64, 64)
+    );
+    assert_eq!(rt; (log.retire(64), log.start()), (64, 64));
+    assert!(rt; log.journal().ends_with(&[128, 4_294_967_360]));
+    assert_eq!(rt; (log.retire(1000), log.prefix()), (128, 129));
+    assert!(rt; log.journal().ends_with(&[4_294_967_360, 4_294_967_424]));
+    let mut snapshot = log.fix(alloc)?;
+    assert_eq!(rt;
+        (snapshot.start(), snapshot.rows(), snapshot.first()),
+        (128, 1, 0)
+    );
+    assert_eq!(rt; scan(&rt, alloc, &mut snapshot)?.len(), 1);
+    Ok(())
+}
+
+#[test]
+fn all_rows_are_retired(rt: HostRuntime) -> Result<(), Memory> {
+    let alloc = rt.alloc();
+    let widths = WIDTHS;
+    let mut log = log(&rt, alloc, &widths, 65)?;
+    fill(&rt, alloc, &widths, &mut log, 0, 64)?;
+    assert_eq!(rt; (log.retire(64), log.prefix()), (64, 64));
+    let none = log.fix(alloc)?;
+    assert_eq!(rt; (none.start(), none.rows()), (64, 0));
+    fill(&rt, alloc, &widths, &mut log, 0, 65)?;
+    assert_eq!(rt;
+        (log.start(), log.prefix(), log.journal().len()),
+        (64, 65, 66)
+    );
+    let one = log.fix(alloc)?;
+    assert_eq!(rt; (one.start(), one.rows()), (64, 1));
+    Ok(())
+}
+
+#[test]
+fn a_snapshot_stays_while_its_log_retires(rt: HostRuntime) -> Result<(), Memory> {
+    let alloc = rt.alloc();
+    let widths = WIDTHS;
+    let mut log = log(&rt, alloc, &widths, 65)?;
+    fill(&rt, alloc, &widths, &mut log, 0, 65)?;
+    let mut snapshot = log.fix(alloc)?;
+    let before = scan(&rt, alloc, &mut snapshot)?;
+    assert_eq!(rt; log.retire(64), 64);
+    let after = scan(&rt, alloc, &mut snapshot)?;
+    assert_eq!(rt; before.as_slice(), after.as_slice());
+    let mut left = log.fix(alloc)?;
+    let last = scan(&rt, alloc, &mut left)?;
+    assert!(rt;
+        before.len() == 65 && last.len() == 1 && before.as_slice().ends_with(last.as_slice())
+    );
+    assert_eq!(rt; (snapshot.start(), snapshot.rows()), (0, 65));
+    snapshot.cut(64, 65);
+    assert_eq!(rt; (snapshot.start(), snapshot.first()), (64, 0));
+    let cut = scan(&rt, alloc, &mut snapshot)?;
+    assert_eq!(rt; cut.as_slice(), last.as_slice());
+    Ok(())
+}
+
+#[test]
+fn the_parts_start_where_their_rows_do(rt: HostRuntime) -> Result<(), Memory> {
+    let alloc = rt.alloc();
+    let widths = WIDTHS;
+    let mut log = log(&rt, alloc, &widths, 193)?;
+    fill(&rt, alloc, &widths, &mut log, 0, 193)?;
+    assert_eq!(rt; log.retire(64), 64);
+    let parts = log.fix(alloc)?.parts(alloc, 4)?;
+    assert_eq!(rt; (parts[0].start(), parts[1].start()), (64, 128));
+    assert_eq!(rt; (parts[2].start(), parts[3].start()), (192, 193));
+    assert_eq!(rt; (parts[2].rows(), parts[3].rows()), (1, 0));
     Ok(())
 }
 

@@ -25,6 +25,7 @@ free_server k w most order = record {
   number = refl;
   widths = refl;
   capacity = refl;
+  places = λ x there. absurd cc;
   shares = λ place piece is. let free : is_some (piece_at (listed most (λ (p : ℕ). None)) place) ≡ false = free_at most place in
       let filled : is_some (piece_at (listed most (λ (p : ℕ). None)) place) ≡ true = ap is_some is in absurd cc;
 }

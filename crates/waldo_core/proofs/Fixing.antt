@@ -3,6 +3,7 @@ use Rattle.std.proofs.Common.{◌≡◌, ◌∙◌, refl, sym, ap, subst, ℕ, �
 use Rattle.std.specs.Prelude.{Ok}
 use Rattle.std.proofs.lemmas.Bool.{lt-ltb, le-ltb}
 use Rattle.std.proofs.lemmas.List.{length-take-le}
+use Rattle.prefix_log.specs.Journal.{HasNoMark}
 use Rattle.prefix_log.specs.Logs.{IsLog}
 use Rattle.prefix_log.specs.declared.snapshot.Snapshot.{Snapshot}
 use Rattle.prg_chacha.specs.declared.seed.Seed.{Seed}
@@ -85,6 +86,12 @@ fixed held w order logs a b u reply k next fix le keeps = record {
       (subst (λ (n : ℕ). a.floor ≤ prefix (log_of logs n).journal) next le) keeps;
 }
 
+below : (x : Snapshots) → next_server_of x < 3
+below found.Unfixed = omega arith
+below (found.First a) = omega arith
+below (found.Second a b) = omega arith
+below (found.Agreed a) = omega arith
+
 -- the snapshot of the next server keeps first rows of the order
 pub next_keeps : (held : Snapshot → Held) (w : Widths) (order : List (Row × Seed)) (logs : Logs) (u : Snapshot) (s : Snapshots) (k : ℕ)
     → ((n : ℕ) → n < 3 → IsServer n w (log_of logs n).capacity order (log_of logs n)) → k ≡ next_server_of s → IsLog (log_of logs k) → IsFixOf (held u) (log_of logs k)
@@ -92,12 +99,11 @@ pub next_keeps : (held : Snapshot → Held) (w : Widths) (order : List (Row × S
 next_keeps held w order logs u s k servers next legal fix =
     fix_keeps (next_server_of s) w (log_of logs (next_server_of s)).capacity order (log_of logs (next_server_of s)) (held u) (servers (next_server_of s) (below s))
     (subst (λ (n : ℕ). IsLog (log_of logs n)) next legal) (subst (λ (n : ℕ). IsFixOf (held u) (log_of logs n)) next fix)
-  where
-    below : (x : Snapshots) → next_server_of x < 3
-    below found.Unfixed = omega arith
-    below (found.First a) = omega arith
-    below (found.Second a b) = omega arith
-    below (found.Agreed a) = omega arith
+
+-- and its log retired no place
+pub next_places : (w : Widths) (order : List (Row × Seed)) (logs : Logs) (s : Snapshots) (k : ℕ) → ((n : ℕ) → n < 3 → IsServer n w (log_of logs n).capacity order (log_of logs n)) → k ≡ next_server_of s
+    → HasNoMark (log_of logs k).capacity (log_of logs k).journal
+next_places w order logs s k servers next = (servers k (let lt = below s in omega (arith, lt, next))).places
 
 -- the third snapshot is kept
 pub keeps_third : (held : Snapshot → Held) (w : Widths) (order : List (Row × Seed)) (u : Snapshot) (old : Snapshots) (a b : ActorState) (reply : Reply) (s t : Snapshot) (g : Entries) (n : ℕ)

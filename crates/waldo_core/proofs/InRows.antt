@@ -1,10 +1,12 @@
 -- A machine that took rows in bulk.
-use Rattle.std.proofs.Common.{◌≡◌, ◌∙◌, refl, sym, ap, subst, ℕ, zero, suc, ◌+◌, ◌<◌, ⊎_elim, cond, Option, Some, None, List, [], ◌∷◌, ◌++◌, All, length, map, drop, get_or, set, slice_get, arith}
+use Rattle.std.proofs.Common.{◌≡◌, ◌∙◌, refl, sym, ap, subst, ℕ, zero, suc, ◌+◌, ◌<◌, ⊎_elim, Bool, false, cond, Option, Some, None, List, [], ◌∷◌, ◌++◌, All, length, map, drop, get_or, set, slice_get, arith}
 use Rattle.std.specs.Prelude.{pos, is_some}
 use Rattle.std.specs.List.{flat_map, range_with_len}
 use Rattle.std.proofs.lemmas.List.{length-map}
 use Rattle.std.proofs.lemmas.List.Elements.{All-map}
-use Rattle.list_facts.specs.Count.{times}
+use Rattle.std.proofs.lemmas.Bool.{cases_eq, le-ltb, ne_eqb}
+use Rattle.list_facts.specs.Count.{has, times}
+use Rattle.list_facts.proofs.Count.{has_yes}
 use Rattle.list_facts.specs.Listed.{listed}
 use Rattle.list_facts.proofs.Listed.{listed_is}
 use Rattle.prg_chacha.specs.declared.seed.Seed.{Seed}
@@ -13,6 +15,7 @@ use Rattle.table_schema.specs.declared.rows.Row.{Row}
 use Rattle.table_schema.specs.declared.widths.Widths.{Widths}
 use Rattle.onehot_column.specs.declared.piece.Piece.{Piece}
 use Rattle.prefix_log.specs.Bulk.{TakesRows}
+use Rattle.prefix_log.specs.Journal.{HasNoMark, is_kept}
 use Rattle.prefix_log.specs.Logs.{IsLog, Log, empty_log, piece_at}
 use Rattle.prefix_log.specs.declared.bulk.Entry.{Entry}
 use Rattle.prefix_log.specs.declared.snapshot.Snapshot.{Snapshot}
@@ -36,15 +39,15 @@ use Rattle.waldo_core.proofs.Stays.{legal_stays}
 
 -- ---- logs
 
-free_slot : (o : Option Piece) → ◌≡◌ {A = ℕ} 0 (cond (is_some o) 1 0) → ◌≡◌ {A = Option Piece} None o
+free_slot : (o : Option Piece) → is_some o ≡ false → ◌≡◌ {A = Option Piece} None o
 free_slot None e = refl
-free_slot (Some p) e = absurd (omega arith)
+free_slot (Some p) e = absurd cc
 
 -- a legal log whose journal is empty has no pieces
 pub blank_log : (k n : ℕ) (w : Widths) (log : Log) → IsLog log → log.server ≡ k → log.widths ≡ w → log.capacity ≡ n → log.journal ≡ [] → log ≡ empty_log k w n
 blank_log k n w log is server widths capacity none =
     let slots : listed log.capacity (λ (place : ℕ). None) ≡ log.slots = sym (listed_is log.capacity (λ (place : ℕ). None) None log.slots is.places
-    (λ i lt. sym (free_slot (piece_at log.slots i) (ap (times i) (sym none) ∙ is.once i)))) in
+    (λ i lt. sym (free_slot (piece_at log.slots i) (is.kept i lt ∙ ap (is_kept i) none ∙ ap (λ (b : Bool). cond b false false) (le-ltb i 0 (omega arith)))))) in
     ap (λ (s : List (Option Piece)). record log { slots = s }) (sym slots)
     ∙ ap (λ (j : List ℕ). record { server = log.server; widths = log.widths; capacity = log.capacity; journal = j; slots = listed log.capacity (λ (place : ℕ). None) }) none
     ∙ ap (λ (i : ℕ). empty_log i log.widths log.capacity) server ∙ ap (λ (u : Widths). empty_log k u log.capacity) widths ∙ ap (empty_log k w) capacity
@@ -54,12 +57,24 @@ pair_there [] place d lt = absurd (omega arith)
 pair_there (e ∷ entries) zero d lt = refl
 pair_there (e ∷ entries) (suc place) d lt = pair_there entries place d (omega arith)
 
+range_below : (x a n : ℕ) → 0 < times x (range_with_len a n) → x < a + n
+range_below x a zero some = absurd (omega arith)
+range_below x a (suc n) some = ⊎_elim (λ (is : x ≡ a). omega arith)
+    (λ (ne : x ≡ a → ⊥). let rest : 0 < 0 + times x (range_with_len (a + 1) n) = subst (λ (b : Bool). 0 < cond b 1 0 + times x (range_with_len (a + 1) n)) (ne_eqb x a ne) some in
+    let lt = range_below x (a + 1) n (omega arith) in omega arith) (cases_eq x a)
+
+-- its journal has places alone
+taken_places : (n m : ℕ) (journal : List ℕ) → journal ≡ range_with_len 0 n → m ≡ n → HasNoMark m journal
+taken_places n m journal is same x there =
+    let lt = range_below x 0 n (has_yes x (range_with_len 0 n) (ap (has x) (sym is) ∙ there)) in omega arith
+
 -- a log that took the rows has pieces of their order
 pub server_of : (k : ℕ) (w : Widths) (entries : List Entry) (log : Log) (d : Entry) → All (λ (e : Entry). Holds w e.row) entries → TakesRows w k entries log → IsServer k w (length entries) (map pair_of entries) log
 server_of k w entries log d rows takes = record {
   number = takes.server;
   widths = takes.widths;
   capacity = takes.capacity;
+  places = taken_places (length entries) log.capacity log.journal takes.journal takes.capacity;
   shares = λ place piece e. let t = takes.pieces place piece d e in
       record { entry = pair_of (get_or entries place d); there = pair_there entries place d t.0; held = rows place d t.0; share = t.1; wide = t.2 };
 }

@@ -9,7 +9,7 @@ log_two logs zero le = absurd (omega arith)
 log_two logs (suc zero) le = absurd (omega arith)
 log_two logs (suc (suc k)) le = refl
 
--- what follows from two clauses of a result
-pub both_ok : {T E : Type 0} (r : Result T E) (P Q R : T → Type 0) → ((x : T) → P x → Q x → R x) → IfOk r P → IfOk r Q → IfOk r R
-both_ok (Ok x) P Q R f p q = f x p q
-both_ok (Err e) P Q R f p q = tt
+-- what follows from three clauses of a result
+pub all_ok : {T E : Type 0} (r : Result T E) (P Q R S : T → Type 0) → ((x : T) → P x → Q x → R x → S x) → IfOk r P → IfOk r Q → IfOk r R → IfOk r S
+all_ok (Ok x) P Q R S f p q s = f x p q s
+all_ok (Err e) P Q R S f p q s = tt

@@ -1,11 +1,11 @@
 -- A placing.
 use Rattle.std.proofs.Common.{◌≡◌, ◌∙◌, refl, sym, ap, subst, ℕ, zero, suc, ◌<◌, ◌≤◌, Bool, true, false, Option, Some, None, slice_get, List, set, arith}
-use Rattle.std.specs.Prelude.{Ok, is_none, is_some, nat_lt, if◌then◌else◌}
+use Rattle.std.specs.Prelude.{Ok, is_none, nat_lt, if◌then◌else◌}
 use Rattle.std.proofs.lemmas.Bool.{le-ltb}
 use Rattle.list_facts.specs.Count.{has}
 use Rattle.onehot_column.specs.Piece.{HasWidths}
 use Rattle.onehot_column.specs.declared.piece.Piece.{Piece}
-use Rattle.prefix_log.specs.Logs.{Log, IsLog, IsOwn, piece_at, placed as log_placed}
+use Rattle.prefix_log.specs.Logs.{Log, IsOwn, placed as log_placed}
 use Rattle.prefix_log.specs.declared.snapshot.Snapshot.{Snapshot}
 use Rattle.prg_chacha.specs.declared.seed.Seed.{Seed}
 use Rattle.scan_chunks.specs.Shelf.{Held}
@@ -27,7 +27,7 @@ use Rattle.waldo_core.specs.declared.events.Reply.TheVariants as replies
 use Rattle.waldo_core.specs.declared.logs.Logs.{Logs}
 use Rattle.waldo_core.specs.declared.snapshots.Snapshots.{Snapshots}
 use Rattle.waldo_core.proofs.Acts.{legal_there, no_case, same_table, seen_set, seen_there, stays}
-use Rattle.agreed_rows.proofs.Shares.{in_journal, server_placed}
+use Rattle.agreed_rows.proofs.Shares.{server_placed}
 
 -- ---- the actor's part
 
@@ -75,26 +75,26 @@ abbrev core_with : Core → Logs → Core
 core_with c logs = record { order = c.order; zero = logs.zero.journal; one = logs.one.journal; two = logs.two.journal; actors = c.actors }
 
 -- a piece comes to a place: the log's journal has the place, at its end where it was not there
-journal_placed : (log : Log) (place : ℕ) (piece : Piece) → IsLog log → (log_placed log place piece).journal ≡ with_place place log.journal
-journal_placed log place piece legal = by (is_some (piece_at log.slots place)) refl
+journal_placed : (log : Log) (place : ℕ) (piece : Piece) → (log_placed log place piece).journal ≡ with_place place log.journal
+journal_placed log place piece = by (has place log.journal) refl
   where
-    by : (b : Bool) → is_some (piece_at log.slots place) ≡ b → (log_placed log place piece).journal ≡ with_place place log.journal
-    by true e = let there : has place log.journal ≡ true = in_journal log place legal ∙ e in rw (e, there) refl
-    by false e = let free : has place log.journal ≡ false = in_journal log place legal ∙ e in rw (e, free) refl
+    by : (b : Bool) → has place log.journal ≡ b → (log_placed log place piece).journal ≡ with_place place log.journal
+    by true e = rw e refl
+    by false e = rw e refl
 
 -- a place that is there is not put there again
 with_place_there : (place : ℕ) (journal : List ℕ) → has place journal ≡ true → with_place place journal ≡ journal
 with_place_there place journal there = rw there refl
 
 -- the journals after a piece, if there is one, came to a log
-core_placed : (c : Core) (logs : Logs) (k place : ℕ) (piece : Option Piece) → IsLog (log_of logs k) → (piece ≡ None → has place (journal_of (core_with c logs) k) ≡ true)
+core_placed : (c : Core) (logs : Logs) (k place : ℕ) (piece : Option Piece) → (piece ≡ None → has place (journal_of (core_with c logs) k) ≡ true)
     → with_journal (core_with c logs) k (with_place place (journal_of (core_with c logs) k)) ≡ core_with c (with_piece logs k place piece)
-core_placed c logs zero place None legal there = ap (λ (j : List ℕ). record (core_with c logs) { zero = j }) (with_place_there place logs.zero.journal (there refl))
-core_placed c logs (suc zero) place None legal there = ap (λ (j : List ℕ). record (core_with c logs) { one = j }) (with_place_there place logs.one.journal (there refl))
-core_placed c logs (suc (suc k)) place None legal there = ap (λ (j : List ℕ). record (core_with c logs) { two = j }) (with_place_there place logs.two.journal (there refl))
-core_placed c logs zero place (Some piece) legal there = ap (λ (j : List ℕ). record (core_with c logs) { zero = j }) (sym (journal_placed logs.zero place piece legal))
-core_placed c logs (suc zero) place (Some piece) legal there = ap (λ (j : List ℕ). record (core_with c logs) { one = j }) (sym (journal_placed logs.one place piece legal))
-core_placed c logs (suc (suc k)) place (Some piece) legal there = ap (λ (j : List ℕ). record (core_with c logs) { two = j }) (sym (journal_placed logs.two place piece legal))
+core_placed c logs zero place None there = ap (λ (j : List ℕ). record (core_with c logs) { zero = j }) (with_place_there place logs.zero.journal (there refl))
+core_placed c logs (suc zero) place None there = ap (λ (j : List ℕ). record (core_with c logs) { one = j }) (with_place_there place logs.one.journal (there refl))
+core_placed c logs (suc (suc k)) place None there = ap (λ (j : List ℕ). record (core_with c logs) { two = j }) (with_place_there place logs.two.journal (there refl))
+core_placed c logs zero place (Some piece) there = ap (λ (j : List ℕ). record (core_with c logs) { zero = j }) (sym (journal_placed logs.zero place piece))
+core_placed c logs (suc zero) place (Some piece) there = ap (λ (j : List ℕ). record (core_with c logs) { one = j }) (sym (journal_placed logs.one place piece))
+core_placed c logs (suc (suc k)) place (Some piece) there = ap (λ (j : List ℕ). record (core_with c logs) { two = j }) (sym (journal_placed logs.two place piece))
 
 -- a piece that is gone was placed
 was_placed : (core : Core) (k : ℕ) (draw : OpenDraw) → IsOpen core (seen_draw draw) → piece_for k draw ≡ None → has draw.place (journal_of core k) ≡ true
@@ -104,22 +104,22 @@ was_placed core (suc (suc k)) draw opened none = opened.two ∙ ap is_none none
 
 -- the logs have pieces of the order alone
 servers_after : (w : Widths) (most : ℕ) (order : List (Row × Seed)) (logs : Logs) (k place : ℕ) (piece : Option Piece)
-    → ((j : ℕ) → j < 3 → IsServer j w most order (log_of logs j)) → k < 3 → ((p : Piece) → piece ≡ Some p → IsShareAt w k order place p)
+    → ((j : ℕ) → j < 3 → IsServer j w most order (log_of logs j)) → k < 3 → place < most → ((p : Piece) → piece ≡ Some p → IsShareAt w k order place p)
     → (j : ℕ) → j < 3 → IsServer j w most order (log_of (with_piece logs k place piece) j)
-servers_after w most order logs k place None servers lt share j b = servers j b
-servers_after w most order logs zero place (Some p) servers lt share zero b = server_placed 0 w most order logs.zero place p (servers 0 b) (share p refl)
-servers_after w most order logs zero place (Some p) servers lt share (suc zero) b = servers 1 b
-servers_after w most order logs zero place (Some p) servers lt share (suc (suc zero)) b = servers 2 b
-servers_after w most order logs zero place (Some p) servers lt share (suc (suc (suc j))) b = absurd (omega arith)
-servers_after w most order logs (suc zero) place (Some p) servers lt share zero b = servers 0 b
-servers_after w most order logs (suc zero) place (Some p) servers lt share (suc zero) b = server_placed 1 w most order logs.one place p (servers 1 b) (share p refl)
-servers_after w most order logs (suc zero) place (Some p) servers lt share (suc (suc zero)) b = servers 2 b
-servers_after w most order logs (suc zero) place (Some p) servers lt share (suc (suc (suc j))) b = absurd (omega arith)
-servers_after w most order logs (suc (suc zero)) place (Some p) servers lt share zero b = servers 0 b
-servers_after w most order logs (suc (suc zero)) place (Some p) servers lt share (suc zero) b = servers 1 b
-servers_after w most order logs (suc (suc zero)) place (Some p) servers lt share (suc (suc zero)) b = server_placed 2 w most order logs.two place p (servers 2 b) (share p refl)
-servers_after w most order logs (suc (suc zero)) place (Some p) servers lt share (suc (suc (suc j))) b = absurd (omega arith)
-servers_after w most order logs (suc (suc (suc k))) place (Some p) servers lt share j b = absurd (omega arith)
+servers_after w most order logs k place None servers lt room share j b = servers j b
+servers_after w most order logs zero place (Some p) servers lt room share zero b = server_placed 0 w most order logs.zero place p (servers 0 b) (omega (arith, (servers 0 b).capacity)) (share p refl)
+servers_after w most order logs zero place (Some p) servers lt room share (suc zero) b = servers 1 b
+servers_after w most order logs zero place (Some p) servers lt room share (suc (suc zero)) b = servers 2 b
+servers_after w most order logs zero place (Some p) servers lt room share (suc (suc (suc j))) b = absurd (omega arith)
+servers_after w most order logs (suc zero) place (Some p) servers lt room share zero b = servers 0 b
+servers_after w most order logs (suc zero) place (Some p) servers lt room share (suc zero) b = server_placed 1 w most order logs.one place p (servers 1 b) (omega (arith, (servers 1 b).capacity)) (share p refl)
+servers_after w most order logs (suc zero) place (Some p) servers lt room share (suc (suc zero)) b = servers 2 b
+servers_after w most order logs (suc zero) place (Some p) servers lt room share (suc (suc (suc j))) b = absurd (omega arith)
+servers_after w most order logs (suc (suc zero)) place (Some p) servers lt room share zero b = servers 0 b
+servers_after w most order logs (suc (suc zero)) place (Some p) servers lt room share (suc zero) b = servers 1 b
+servers_after w most order logs (suc (suc zero)) place (Some p) servers lt room share (suc (suc zero)) b = server_placed 2 w most order logs.two place p (servers 2 b) (omega (arith, (servers 2 b).capacity)) (share p refl)
+servers_after w most order logs (suc (suc zero)) place (Some p) servers lt room share (suc (suc (suc j))) b = absurd (omega arith)
+servers_after w most order logs (suc (suc (suc k))) place (Some p) servers lt room share j b = absurd (omega arith)
 
 -- ---- the machine
 
@@ -154,8 +154,7 @@ can_place held space t i k a ok here = record {
     own (suc zero) draw piece is has = own_of 1 t.widths t.capacity t.order t.logs.one draw.place piece (ok.servers 1 (omega arith)) (shares draw is 1 piece (omega arith) has)
     own (suc (suc n)) draw piece is has = own_of 2 t.widths t.capacity t.order t.logs.two draw.place piece (ok.servers 2 (omega arith)) (shares draw is 2 piece (omega arith) has)
 
-module _ (held : Snapshot → Held) (space : ℕ) (t : Table) (i k : ℕ) (a b : ActorState) (after : Logs) (ok : IsMachine held space t) (here : slice_get t.actors i ≡ Some a)
-    (legal : IsLog (log_of t.logs k)) where
+module _ (held : Snapshot → Held) (space : ℕ) (t : Table) (i k : ℕ) (a b : ActorState) (after : Logs) (ok : IsMachine held space t) (here : slice_get t.actors i ≡ Some a) where
   -- the machine afterwards
   abbrev pub next : Table
   next = record t { logs = after; actors = set t.actors i b }
@@ -170,7 +169,7 @@ module _ (held : Snapshot → Held) (space : ℕ) (t : Table) (i k : ℕ) (a b :
     core_next : with_actor (with_journal (core_of held t) k (with_place p.draw.place (journal_of (core_of held t) k))) i (seen_actor held b) ≡ core_of held next
     core_next =
         ap (λ (c : Core). with_actor c i (seen_actor held b))
-        (core_placed (core_of held t) t.logs k p.draw.place (piece_for k p.draw) legal (was_placed (core_of held t) k p.draw open_there)
+        (core_placed (core_of held t) t.logs k p.draw.place (piece_for k p.draw) (was_placed (core_of held t) k p.draw open_there)
         ∙ ap (core_with (core_of held t)) (sym p.logs))
         ∙ ap (λ (actors : List Actor). record (core_with (core_of held t) after) { actors = actors }) (sym (seen_set held t i b))
 
@@ -192,7 +191,7 @@ module _ (held : Snapshot → Held) (space : ℕ) (t : Table) (i k : ℕ) (a b :
     kept =
         stays held space t i after b (events.Place i k) (record { total = 0; weighted = 0 }) replies.Placed ok
         (subst (λ (l : Logs). (j : ℕ) → j < 3 → IsServer j t.widths t.capacity t.order (log_of l j)) (sym p.logs)
-        (servers_after t.widths t.capacity t.order t.logs k p.draw.place (piece_for k p.draw) ok.servers p.server (λ piece has. shares_there k piece p.server has)))
+        (servers_after t.widths t.capacity t.order t.logs k p.draw.place (piece_for k p.draw) ok.servers p.server (omega (arith, open_there.place, ok.few)) (λ piece has. shares_there k piece p.server has)))
         actor_next (steps (record { total = 0; weighted = 0 }))
 
   pub placed_kept : (reply : Option Reply) → Places held k t.logs a after b reply → IsMachine held space next

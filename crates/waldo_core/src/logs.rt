@@ -5,7 +5,7 @@ ghost use Rattle.std.specs.Option.{ForSome};
 ghost use Rattle.table_schema.specs.Widths.{Fits, Holds, column_bits};
 ghost use Rattle.prefix_log.specs.Bulk.{TakesRows};
 ghost use Rattle.waldo_core.specs.InBulk.{IsBlank};
-ghost use Rattle.prefix_log.specs.Journal.{prefix as prefix_in};
+ghost use Rattle.prefix_log.specs.Journal.{HasNoMark, prefix as prefix_in};
 ghost use Rattle.prefix_log.specs.Logs.{IsLog, IsOwn, empty_log};
 ghost use Rattle.agreed_rows.specs.Servers.{IsFixOf};
 ghost use Rattle.waldo_core.specs.Held.{log_of, with_piece};
@@ -129,8 +129,9 @@ impl Logs {
         }
     }
 
-    /// A snapshot of a server's first places. The only error is out of memory.
+    /// A snapshot of a server's first places, of which none is retired. The only error is out of memory.
     pub(crate) fn fix(&mut self, alloc: Global, server: u8) -> Result<Snapshot, Memory>
+        requires places { let log = log_of self.old server in HasNoMark log.capacity log.journal }
         ensures stays { self.new ≡ self.old }
         ensures fixed { IfOk result (λ s. IsFixOf (⟦<Snapshot as Shelf>⟧.held s) (log_of self.old server)) }
     {

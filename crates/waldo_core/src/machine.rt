@@ -279,7 +279,6 @@ impl Machine {
         if i >= self.actors.len() {
             return None;
         }
-        self.logs.prefix(server);
         self.actors[i].place(&mut self.logs, server)
     }
 

@@ -6,9 +6,9 @@ use Rattle.list_facts.specs.Count.{has, times}
 use Rattle.list_facts.proofs.Count.{has_yes, has_from, times-append}
 use Rattle.list_facts.proofs.Prefixes.{prefix_length, prefix_self, prefix_trans}
 use Rattle.onehot_column.specs.declared.piece.Piece.{Piece}
-use Rattle.prefix_log.specs.Journal.{IsPrefixOf, prefix}
+use Rattle.prefix_log.specs.Journal.{prefix}
 use Rattle.prefix_log.specs.Logs.{IsLog, Log, piece_at, placed}
-use Rattle.prefix_log.specs.Snapshots.{HoldsPieces, pieces_in}
+use Rattle.prefix_log.proofs.Marked.{entries_once}
 use Rattle.prefix_log.proofs.Prefixes.{prefix_grows, prefix_most}
 use Rattle.prg_chacha.specs.declared.seed.Seed.{Seed}
 use Rattle.scan_chunks.specs.Shelf.{Held}
@@ -16,10 +16,10 @@ use Rattle.std.proofs.lemmas.List.{length-take}
 use Rattle.std.proofs.lemmas.Option.{slice_get_within}
 use Rattle.table_schema.specs.declared.rows.Row.{Row}
 use Rattle.ticket_place.specs.Sights.{Draws, Named, Seen}
-use Rattle.agreed_rows.specs.Servers.{IsServer, IsShareAt, KeepsFirst}
+use Rattle.agreed_rows.specs.Servers.{IsFixOf, IsServer, IsShareAt, KeepsFirst}
 use Rattle.table_schema.specs.declared.widths.Widths.{Widths}
 use Rattle.agreed_rows.specs.Agreed.{Entries}
-use Rattle.agreed_rows.proofs.Shares.{fix_keeps, fix_of, in_journal, keeps_grows, server_placed}
+use Rattle.agreed_rows.proofs.Shares.{fix_keeps, in_journal, keeps_grows, server_placed}
 use Rattle.waldo_table.specs.Vaults.{Behind, IsJournal, IsVault, tag_for}
 use Rattle.waldo_table.specs.declared.tag.VaultTag.{VaultTag}
 use Rattle.waldo_table.specs.Faults.{at_server}
@@ -63,15 +63,11 @@ pub journal_of : (log : Log) (order : List (Row × Seed)) → IsLog log → IsVa
 journal_of log order legal vault = record { once = once; known = known }
   where
     once : (place : ℕ) → times place log.journal ≤ 1
-    once place = by (is_some (piece_at log.slots place)) refl
-      where
-        by : (b : Bool) → is_some (piece_at log.slots place) ≡ b → times place log.journal ≤ 1
-        by true e = let is : times place log.journal ≡ 1 = legal.once place ∙ ap (λ (c : Bool). cond c 1 0) e in omega arith
-        by false e = let is : times place log.journal ≡ 0 = legal.once place ∙ ap (λ (c : Bool). cond c 1 0) e in omega arith
+    once = entries_once log.capacity log.journal legal.fits.1 legal.journal
 
     known : (place : ℕ) → has place log.journal ≡ true → place < length order
     known place there =
-        let p = some_of (piece_at log.slots place) (sym (in_journal log place legal) ∙ there) in
+        let p = some_of (piece_at log.slots place) (sym (in_journal log place legal vault.places (vault.places place there)) ∙ there) in
         let share = vault.shares place p.0 p.1 in slice_get_within order place share.entry share.there
 
 pub has_more : (place : ℕ) (old new : List ℕ) → IsPrefix old new → has place old ≡ true → has place new ≡ true
@@ -85,9 +81,9 @@ pub prefix_rises : (old new : List ℕ) → IsPrefix old new → prefix old ≤ 
 prefix_rises old new p = prefix_grows old new (λ place there. has_more place old new p there)
 
 -- a snapshot of a vault
-pub fixed_keeps : (log : Log) (order : List (Row × Seed)) (h : Held) → IsLog log → IsVault log order → IsPrefixOf log.journal h.rows → HoldsPieces log.widths (pieces_in (take h.rows log.slots)) h
+pub fixed_keeps : (log : Log) (order : List (Row × Seed)) (h : Held) → IsLog log → IsVault log order → IsFixOf h log
     → KeepsFirst log.widths log.server order h.rows h
-fixed_keeps log order h legal vault rows pieces = fix_keeps log.server log.widths log.capacity order log h vault legal (fix_of h log rows pieces)
+fixed_keeps log order h legal vault fix = fix_keeps log.server log.widths log.capacity order log h vault legal fix
 
 -- ---- passes
 
@@ -104,19 +100,19 @@ legal_more p sight more legal = record {
 }
 
 -- a vault that took a piece
-pub placed_journal : (log new : Log) (order : List (Row × Seed)) (place : ℕ) (piece : Piece) → new ≡ placed log place piece → IsLog new → IsVault log order → IsShareAt log.widths log.server order place piece → IsJournal new.journal order
-placed_journal log new order place piece is legal vault share =
-    let kept : IsServer log.server log.widths log.capacity order new = subst (λ (l : Log). IsServer log.server log.widths log.capacity order l) (sym is) (server_placed log.server log.widths log.capacity order log place piece vault share) in
-    journal_of new order legal (record { number = refl; widths = refl; capacity = refl; shares = λ x p there. by_log new log.server log.widths order x p kept there })
+pub placed_journal : (log new : Log) (order : List (Row × Seed)) (place : ℕ) (piece : Piece) → new ≡ placed log place piece → IsLog new → IsVault log order → place < log.capacity → IsShareAt log.widths log.server order place piece → IsJournal new.journal order
+placed_journal log new order place piece is legal vault lt share =
+    let kept : IsServer log.server log.widths log.capacity order new = subst (λ (l : Log). IsServer log.server log.widths log.capacity order l) (sym is) (server_placed log.server log.widths log.capacity order log place piece vault lt share) in
+    journal_of new order legal (record { number = refl; widths = refl; capacity = refl; places = kept.places; shares = λ x p there. by_log new log.server log.widths order x p kept there })
   where
     by_log : (l : Log) (k : ℕ) (w : Widths) (o : List (Row × Seed)) (x : ℕ) (p : Piece) → IsServer k w log.capacity o l → piece_at l.slots x ≡ Some p → IsShareAt l.widths l.server o x p
     by_log l k w o x p s there = subst (λ (v : Widths). IsShareAt v l.server o x p) (sym s.widths) (subst (λ (n : ℕ). IsShareAt w n o x p) (sym s.number) (s.shares x p there))
 
 -- the same of what a vault is seen as
-pub fixed_as : (log : Log) (order : List (Row × Seed)) (now : Behind) (h : Held) → log ≡ now.log → order ≡ now.order → IsLog log → IsVault log order → IsPrefixOf log.journal h.rows → HoldsPieces log.widths (pieces_in (take h.rows log.slots)) h
+pub fixed_as : (log : Log) (order : List (Row × Seed)) (now : Behind) (h : Held) → log ≡ now.log → order ≡ now.order → IsLog log → IsVault log order → IsFixOf h log
     → KeepsFirst now.log.widths now.log.server now.order h.rows h
-fixed_as log order now h same_log same_order legal vault rows pieces =
-    subst (λ (l : Log). KeepsFirst l.widths l.server now.order h.rows h) same_log (subst (λ (o : List (Row × Seed)). KeepsFirst log.widths log.server o h.rows h) same_order (fixed_keeps log order h legal vault rows pieces))
+fixed_as log order now h same_log same_order legal vault fix =
+    subst (λ (l : Log). KeepsFirst l.widths l.server now.order h.rows h) same_log (subst (λ (o : List (Row × Seed)). KeepsFirst log.widths log.server o h.rows h) same_order (fixed_keeps log order h legal vault fix))
 
 pub legal_by : (p : PassView) (sight : Seen) → sight ≡ p.sight → IsLegal p → IsLegal (record p { sight = sight })
 legal_by p sight same legal = subst (λ (s : Seen). IsLegal (record p { sight = s })) (sym same) legal

@@ -5,6 +5,7 @@ use Rattle.prefix_log.specs.Chunks.{first_rows}
 use Rattle.prefix_log.specs.declared.snapshot.Snapshot.{Snapshot}
 use Rattle.prefix_log.proofs.Cuts.{is_shelf}
 use Rattle.prefix_log.proofs.Parts.{all_parts, all_pushed, part_pushed, shared_all, shared_more}
+use Rattle.prefix_log.proofs.Starts.{follow_pushed}
 use Rattle.prefix_log.proofs.snapshot.Snapshot.parts.Goals as goal
 
 pub loop-worker-preserved : goal.loop-worker-preserved
@@ -22,6 +23,7 @@ loop-worker-preserved c =
     record {
       so_far = part_pushed (λ (s : Snapshot). first_rows s.rows.widths s.rows.count s.rows.start (map arc_value s.rows.chunks.items)) chunks count low (low + chunks / count + c.from.result) (first_rows r.widths r.count r.start (map arc_value r.chunks.items))
           c.loop-worker.parts.items c.push.new.self.items c.in_ok-part.field-0 c.in_ok-push.ensures.items (is_shelf r.widths r.count r.start (map arc_value r.chunks.items) r.few) (omega arith) (omega (arith, left, size)) (omega arith) (omega (arith, few)) i.so_far c.in_ok-part.ensures.held;
+      starts = follow_pushed (λ (s : Snapshot). first_rows s.rows.widths s.rows.count s.rows.start (map arc_value s.rows.chunks.items)) r.place _ c.loop-worker.parts.items c.push.new.self.items c.in_ok-part.field-0 c.in_ok-push.ensures.items i.starts i.so_far.rows c.in_ok-part.ensures.place;
       visits = all_pushed (λ (s : Snapshot). s.visits.items ≡ []) c.loop-worker.parts.items c.push.new.self.items c.in_ok-part.field-0 c.in_ok-push.ensures.items i.visits c.in_ok-part.ensures.visits;
       made = search rules;
       left = left;

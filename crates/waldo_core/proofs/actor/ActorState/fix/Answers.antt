@@ -1,6 +1,9 @@
 use Rattle.prefix_log.specs.contracts.snapshot.SnapshotShelf.TheImpl.{held-value}
-use Rattle.waldo_core.proofs.Fixing.{fixed, kept_first, next_keeps}
+use Rattle.waldo_core.proofs.Fixing.{fixed, kept_first, next_keeps, next_places}
 use Rattle.waldo_core.proofs.actor.ActorState.fix.Goals as goal
+
+pub fix-requires : goal.fix-requires
+fix-requires c = record { places = next_places c.args.widths.now c.args.sight.now.order c.args.logs.now c.args.self.now.snapshots c.next_server-server.result c.requires.servers c.next_server-server.ensures }
 
 pub keep-requires-clause-next : goal.keep-requires-clause-next
 keep-requires-clause-next c =

@@ -13,10 +13,10 @@ pub invariant_of-self : goal.invariant_of-self
 invariant_of-self c =
     let m = c.self.inside in
     let here = slice_get_read m.actors.items c.len.result c.args.number c.index_mut.result.now (c.len.ensures ∙ m.actors.ok.0) c.if-i-len.false c.index_mut.ensures.value in
-    placed_kept _ _ _ c.args.number c.args.server c.index_mut.result.now c.place.new.self c.place.new.logs c.self.invariant here c.prefix.ensures.legal c.place.result c.place.ensures
+    placed_kept _ _ _ c.args.number c.args.server c.index_mut.result.now c.place.new.self c.place.new.logs c.self.invariant here c.place.result c.place.ensures
 
 pub returns : goal.returns
 returns c =
     let m = c.self.inside in
     let here = slice_get_read m.actors.items c.len.result c.args.number c.index_mut.result.now (c.len.ensures ∙ m.actors.ok.0) c.if-i-len.false c.index_mut.ensures.value in
-    placed_done _ _ _ c.args.number c.args.server c.index_mut.result.now c.place.new.self c.place.new.logs c.self.invariant here c.prefix.ensures.legal c.args.self.now c.place.result c.self.view_is c.place.ensures
+    placed_done _ _ _ c.args.number c.args.server c.index_mut.result.now c.place.new.self c.place.new.logs c.self.invariant here c.args.self.now c.place.result c.self.view_is c.place.ensures
