@@ -100,13 +100,17 @@ legal_more p sight more legal = record {
 }
 
 -- a vault that took a piece
-pub placed_journal : (log new : Log) (order : List (Row × Seed)) (place : ℕ) (piece : Piece) → new ≡ placed log place piece → IsLog new → IsVault log order → place < log.capacity → IsShareAt log.widths log.server order place piece → IsJournal new.journal order
-placed_journal log new order place piece is legal vault lt share =
+pub placed_vault : (log new : Log) (order : List (Row × Seed)) (place : ℕ) (piece : Piece) → new ≡ placed log place piece → IsVault log order → place < log.capacity → IsShareAt log.widths log.server order place piece → IsVault new order
+placed_vault log new order place piece is vault lt share =
     let kept : IsServer log.server log.widths log.capacity order new = subst (λ (l : Log). IsServer log.server log.widths log.capacity order l) (sym is) (server_placed log.server log.widths log.capacity order log place piece vault lt share) in
-    journal_of new order legal (record { number = refl; widths = refl; capacity = refl; places = kept.places; shares = λ x p there. by_log new log.server log.widths order x p kept there })
+    record { number = refl; widths = refl; capacity = refl; places = kept.places; shares = λ x p there. by_log new log.server log.widths order x p kept there }
   where
     by_log : (l : Log) (k : ℕ) (w : Widths) (o : List (Row × Seed)) (x : ℕ) (p : Piece) → IsServer k w log.capacity o l → piece_at l.slots x ≡ Some p → IsShareAt l.widths l.server o x p
     by_log l k w o x p s there = subst (λ (v : Widths). IsShareAt v l.server o x p) (sym s.widths) (subst (λ (n : ℕ). IsShareAt w n o x p) (sym s.number) (s.shares x p there))
+
+-- and its journal
+pub placed_journal : (log new : Log) (order : List (Row × Seed)) (place : ℕ) (piece : Piece) → new ≡ placed log place piece → IsLog new → IsVault log order → place < log.capacity → IsShareAt log.widths log.server order place piece → IsJournal new.journal order
+placed_journal log new order place piece is legal vault lt share = journal_of new order legal (placed_vault log new order place piece is vault lt share)
 
 -- the same of what a vault is seen as
 pub fixed_as : (log : Log) (order : List (Row × Seed)) (now : Behind) (h : Held) → log ≡ now.log → order ≡ now.order → IsLog log → IsVault log order → IsFixOf h log
