@@ -17,7 +17,12 @@ fn checks(rt: HostRuntime) {
         (minus(5), minus(14), 3, None),
         (half - 1, 3 * (half - 1), 3, Some(9223372036854775807)),
         (half, 3 * half, 3, None),
-        (minus(half - 1), minus(3 * (half - 1)), 3, Some(-9223372036854775807)),
+        (
+            minus(half - 1),
+            minus(3 * (half - 1)),
+            3,
+            Some(-9223372036854775807),
+        ),
         (minus(half), minus(3 * half), 3, None),
         (1 << 64, 3 << 64, 3, None),
         (half, 1 << 127, (1 << 64) + 1, None),
