@@ -189,13 +189,13 @@ fn a_snapshot_stays_while_its_log_retires(rt: HostRuntime) -> Result<(), Memory>
     let before = scan(&rt, alloc, &mut snapshot)?;
     assert_eq!(rt; log.retire(64), 64);
     let after = scan(&rt, alloc, &mut snapshot)?;
+    assert_eq!(rt; before.len(), 65);
     assert_eq!(rt; before.as_slice(), after.as_slice());
-    let mut left = log.fix(alloc)?;
-    let last = scan(&rt, alloc, &mut left)?;
-    assert!(rt;
-        before.len() == 65 && last.len() == 1 && before.as_slice().ends_with(last.as_slice())
-    );
-    assert_eq!(rt; (snapshot.start(), snapshot.rows()), (0, 65));
+    let last = scan(&rt, alloc, &mut log.fix(alloc)?)?;
+    assert_eq!(rt; last.len(), 1);
+    assert!(rt; before.as_slice().ends_with(last.as_slice()));
+    assert_eq!(rt; snapshot.rows(), 65);
+    assert_eq!(rt; snapshot.start(), 0);
     snapshot.cut(64, 65);
     assert_eq!(rt; (snapshot.start(), snapshot.first()), (64, 0));
     let cut = scan(&rt, alloc, &mut snapshot)?;
